@@ -230,8 +230,8 @@ def said_of_batch(crate: Any, batch: Iterable[Edit], texts: Mapping[Path, str]) 
 
 
 def alone(crate: Any, edit: Edit) -> str | None:
-    """Why an edit that is tried alone isn't refused for its meaning, or None. A check of a trait's method is made with
-    all others.
+    """Why an edit that is tried alone isn't refused for its meaning, or None. All functions are checked if it isn't
+    known which.
     """
     texts, paths = edit.applied({}) or {}, edit.paths() if edit.is_of_functions() else []
     return fault_of(crate, texts, paths, of_paths(check(crate, texts, paths), paths))

@@ -9,7 +9,7 @@ NUMBERS = [
     *(0, 1, 9, 39, 40, 79, 80, 920, 958, 959, 960, 4_095, 9_999, 10_000, 65_535, 65_536, 999_999_999, 1_000_000_000),
     *(2**31, 2**32, 2**63 - 1, 2**63),
 ]
-# Of any text, of TOML, of a base, and of a certificate.
+# Pieces of any text, of TOML, of a base, and of a certificate.
 PIECES = [
     *(b"a", b"z", b"#", b" ", b"\t", b"\n", b"\r\n", b"\r", b"0", b"1", b"_", b"-", b"+", b"?", b"\x00", b"\xff", b"="),
     *(

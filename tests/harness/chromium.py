@@ -21,7 +21,10 @@ class Beside(NamedTuple):
     id: str
     title: str
     price: str
+    group: str
+    place: str
     ways: list[tuple[str, str, str, str]]
+    said: list[str]
     faults: list[str]
 
 
@@ -69,7 +72,10 @@ BESIDE = (
         text(heading),
         after(heading),
         text(at.querySelector(".price")),
+        text(at.querySelector(".group")) || "",
+        text(at.querySelector(".place")) || "",
         ways.map((way) => [after(way, "::before"), text(way), after(way), way.className]),
+        Array.from(at.querySelectorAll(".said li"), text),
         Array.from(at.querySelectorAll(".faults li"), text),
     ];"""
 )
@@ -185,6 +191,7 @@ class Browser:
         from selenium.webdriver.common.keys import Keys
 
         codes = {"Enter": Keys.ENTER, "Backspace": Keys.BACKSPACE, "Escape": Keys.ESCAPE, "Control": Keys.CONTROL}
+        codes["Tab"] = Keys.TAB
         *held, last = (codes.get(name, name) for name in names)
         chains: Any = ActionChains
         chain = chains(self.web)
@@ -197,6 +204,22 @@ class Browser:
 
     def click(self, selector: str) -> None:
         self.web.find_element("css selector", selector).click()
+
+    @contextmanager
+    def held(self, what: str) -> Iterator[None]:
+        """Holds a key, or the mouse over an element if it is a selector."""
+        from selenium.webdriver.common.action_chains import ActionChains
+        from selenium.webdriver.common.keys import Keys
+
+        chains: Any = ActionChains
+        key = {"Enter": Keys.ENTER, "Space": Keys.SPACE}.get(what, what)
+        if what.startswith("#"):
+            chains(self.web).click_and_hold(self.web.find_element("css selector", what)).perform()
+        else:
+            chains(self.web).key_down(key).perform()
+        yield
+        chain = chains(self.web)
+        (chain.release() if what.startswith("#") else chain.key_up(key)).perform()
 
     def click_keys(self, words: list[str]) -> None:
         """Clicks the keys of words on the pad."""
@@ -215,8 +238,9 @@ class Browser:
         return dict(self.run(SEEN))
 
     def beside(self) -> Beside:
-        id, title, price, ways, faults = self.run(BESIDE)
-        return Beside(id, title.strip(), price, [(key, text, word, look) for key, text, word, look in ways], faults)
+        id, title, price, group, place, ways, said, faults = self.run(BESIDE)
+        every = [(key, text, word, look) for key, text, word, look in ways]
+        return Beside(id, title.strip(), price, group, place, every, said, faults)
 
     def tiles(self) -> list[Tile]:
         return [Tile(*tile) for tile in self.run(TILES)]

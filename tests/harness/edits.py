@@ -108,22 +108,25 @@ class Change:
 
 @dataclass
 class Edit:
-    """A wrong change of a crate, and its file."""
+    """A wrong change of a crate, its file, and the functions that it says are to be checked: of a trait, or outside of
+    all, it can't be seen which.
+    """
 
     path: Path
     changes: list[Change]
+    checked: list[str]
 
     @property
     def name(self) -> str:
         return self.path.stem
 
     def is_of_functions(self) -> bool:
-        """Whether it changes functions alone, of no trait."""
-        return all(place and not place.trait for place in self.functions())
+        """Whether it is known which functions are to be checked: it names them, or changes functions of no trait."""
+        return bool(self.checked) or all(place and not place.trait for place in self.functions())
 
     def paths(self) -> list[str]:
-        """The functions that it changes, as rt has them."""
-        return sorted({place.path for place in self.functions() if place})
+        """The functions that are to be checked, as rt has them: those that it names or changes."""
+        return self.checked or sorted({place.path for place in self.functions() if place})
 
     def functions(self) -> list[Function | None]:
         """The functions that it changes, None for what is outside of all."""
@@ -142,7 +145,7 @@ class Edit:
 
 def edit_of(path: Path) -> Edit:
     crate = file = path.parents[1]
-    old, changes = "", list[Change]()
+    old, changes, checked = "", list[Change](), list[str]()
     for line in path.read_text("utf-8").split("\n"):
         word, _, rest = line.partition(":")
         if word == "file":
@@ -151,7 +154,9 @@ def edit_of(path: Path) -> Edit:
             old = rest[1:]
         elif word == "new":
             changes.append(Change(file, old, rest[1:]))
-    return Edit(path, changes)
+        elif word == "# check":
+            checked.append(rest.strip())
+    return Edit(path, changes, checked)
 
 
 def edits(crate: str, folder: str = "must-fail") -> list[Edit]:

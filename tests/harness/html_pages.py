@@ -51,6 +51,23 @@ def way(element: Element) -> Way:
     return Way("" if is_link else element.get("class"), element.get("data-key"), text)
 
 
+def items(element: Element, look: str) -> list[str]:
+    """The items of the lists of a class."""
+    lists = [one for one in children(element, "ul") if one.get("class") == look]
+    return [text_of(line) for one in lists for line in children(one, "li")]
+
+
+def revealed(section: Element) -> str:
+    """The text with what the frame conceals, if it does; the picture beside it has the same title and framed cell."""
+    if not (divs := children(section, "div")):
+        return ""
+    (div,), (own,) = divs, children(section, "svg")
+    svg, pre = div
+    assert (div.get("class"), plain(svg), plain(pre)) == ("revealed", "svg", "pre")
+    assert touched(svg) == touched(own) and text_of(svg[0]) == text_of(own[0])
+    return text_of(pre)
+
+
 def section(element: Element) -> Section:
     (svg,), (pre,) = children(element, "svg"), children(element, "pre")
     paragraphs = {child.get("class"): child for child in children(element, "p")}
@@ -61,10 +78,14 @@ def section(element: Element) -> Section:
         id,
         element.get("class") == "unreached",
         text_of(pre),
+        revealed(element),
         text_of(paragraphs["price"]),
+        text_of(paragraphs["group"]) if "group" in paragraphs else "",
+        text_of(paragraphs["place"]),
         "over" in paragraphs,
         ways,
-        [text_of(line) for line in every(element, "li")],
+        items(element, "said"),
+        items(element, "faults"),
         touched(svg),
     )
 
@@ -83,13 +104,12 @@ def page_of(text: str) -> Page:
     (body,) = children(root, "body")
     (header,) = children(body, "header")
     (name,) = children(header, "h1")
-    lists = [one for one in children(body, "ul") if one.get("class") == "faults"]
     verdict = next(p for p in every(root, "p") if (p.get("class") or "").startswith("verdict"))
     return Page(
         text_of(name),
         text_of(verdict),
         text_of(children(header, "p")[-1]),
-        [text_of(line) for one in lists for line in every(one, "li")],
+        items(body, "faults"),
         [section(one) for one in every(root, "section")],
         wrong,
     )

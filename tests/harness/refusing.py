@@ -56,6 +56,8 @@ class Run:
         return done._replace(stderr=errors.strip()), int(count[1]) if count else 0
 
     def answers(self, numbers: Iterable[int]) -> Iterator[tuple[int, Done]]:
-        """Each of these requests, with the answer where it is refused."""
-        with ThreadPoolExecutor(os.cpu_count()) as pool:
+        """Each of these requests, with the answer where it is refused. What writes a file runs alone: another run would
+        put a new file in its place between two looks at it.
+        """
+        with ThreadPoolExecutor(1 if "--out" in self.command else os.cpu_count()) as pool:
             yield from pool.map(lambda number: (number, self.answer(number)[0]), numbers)

@@ -17,7 +17,7 @@ NUMBER_LINE = re.compile(rb"(0|[1-9][0-9]{0,8})\n")
 MOST_PRICE = 9_999
 MOST_KEYINGS = 65_535
 MOST_POLICY_BYTES = 65_536
-OTHER_SUM = "its sum isn't the one in SHA256SUMS"
+OTHER_SUM = "it was changed: its sum isn't the one in SHA256SUMS"
 
 
 class Wrong(Exception):
@@ -124,7 +124,7 @@ class FolderReading:
     def judge_own(self, number: int, kept: Kept) -> None:
         path = f"{self.name}/editions/{number}"
         if other := kept.has_sums():
-            words = "it hasn't the sums of the other four files" if other == "SHA256SUMS" else OTHER_SUM
+            words = "it lacks the sums of the other four files" if other == "SHA256SUMS" else OTHER_SUM
             raise Wrong(f"{path}/{other}: {words}")
         if fault := refusal(*kept.edition, kept.policy):
             raise Wrong(f"{path}/base.cert: REFUSED {fault}")
@@ -180,16 +180,16 @@ def verified(live: Path, name: str) -> Answer:
     editions, current = live / "editions", live / "current"
     numbers = sorted(int(one.name) for one in editions.iterdir() if one.name.isdigit()) if editions.is_dir() else []
     folder, lines, right = FolderReading(live, name, numbers), [], True
-    served, ending = None, ", none is served"
+    served, ending = None, "; none is served"
     if current.is_file():
         try:
             served = number_in(current.read_bytes())
-            ending = f", {served} is served"
+            ending = f"; edition {served} is served"
             if served not in numbers:
                 right, lines = False, [f"{name}/current: edition {served} isn't there"]
         except Refused:
             right, ending, served = False, "", numbers[-1] if numbers else None
-            lines = [f"{name}/current: no number of an edition and a line end"]
+            lines = [f"{name}/current: has to hold an edition's number and a line end"]
     judged = [folder.judge(number, served) for number in numbers]
     fork = fork_in(judged)
     right = right and fork is None and all(one.is_right for one in judged)

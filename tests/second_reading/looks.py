@@ -138,6 +138,18 @@ def looks(cells: bytes, row_type: type[Row] = Row) -> list[list[Look]]:
     return rows
 
 
+def lines_of(rows: list[list[Look]]) -> str:
+    return "".join("".join(look.character() for look in row).rstrip(SPACE) + "\n" for row in rows)
+
+
 def text(cells: bytes) -> str:
     """The form text of a screen."""
-    return "".join("".join(look.character() for look in row).rstrip(SPACE) + "\n" for row in looks(cells))
+    return lines_of(looks(cells))
+
+
+def revealed(cells: bytes) -> str:
+    """The same with all that the screen conceals; empty if that is nothing but spaces."""
+    rows = looks(cells)
+    if not any(look.concealed and look.holds != SPACE for row in rows for look in row):
+        return ""
+    return lines_of([[look._replace(concealed=False) for look in row] for row in rows])

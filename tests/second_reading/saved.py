@@ -25,6 +25,7 @@ SHEET_ROW = re.compile(rb"OL,\x20*([0-9]{1,2})\x20*(?:,(.*))?", re.DOTALL)
 SHEET_NUMBER = re.compile(rb"PN,([1-9][0-9]{2})([0-9]{2})?")
 SHEET_CELL = re.compile(rb"\x1b[\x40-\x5f]|.", re.DOTALL)
 PAGE_NUMBER = re.compile(r":PN=([1-9][0-9]{2})([0-9]{2})?(?![A-Za-z0-9_+/-])")
+WAYS_TO_NAME = "write it before the address, e.g. 100a https://.., or in TTI as PN,10001"
 ESCAPED = {ord('"'): '\\"', ord("\\"): "\\\\"}
 
 
@@ -85,7 +86,7 @@ def cells_of(data: bytes) -> bytes:
     if data[:2] == b"\xfe\x01" and size in (968, 1008):
         return saved_rows(data[6:966])
     sizes = "a screen has 960, 1000, 1024 or 880 bytes, an EP1 file 968 or 1008"
-    raise NoScreen(f"size {size}; {sizes}; --stream reads what a line carried")
+    raise NoScreen(f"size {size}; {sizes}; TTI and addresses are text; a capture of a call needs --stream")
 
 
 def id_of(word: str) -> FrameId | None:
@@ -120,7 +121,7 @@ def frame_of(path: str, cells: bytes, offset: int = 0) -> dict[FrameId, list[Scr
     shown, price = head(cells)
     id = name_id(path) or shown
     if not id:
-        raise NoScreen("no frame id in the name, and row 0 shows none")
+        raise NoScreen("no frame id: name the file by it, e.g. 478a.bin")
     return {id: [Screen(path, offset, price, cells)]}
 
 
@@ -190,7 +191,7 @@ def linked_screens(data: bytes) -> list[tuple[int, FrameId | None, FrameId | Non
             raise NoScreen("two addresses in a line", number)
         size = next((at for at, byte in enumerate(others[0]) if byte not in VALUES), len(others[0]))
         if size not in (1120, 1167):
-            raise NoScreen(f"an address with {size} letters; a screen has 1120 or 1167", number)
+            raise NoScreen(f"an address with {size} characters; a screen has 1120 or 1167", number)
         cells = linked_cells(others[0][:1120])
         screens.append((number, beside(before), numbered(others[0][size:]), cells))
     return screens
@@ -241,7 +242,7 @@ def frames_of_text(path: str, data: bytes) -> dict[FrameId, list[Screen]]:
         shown, price = head(cells)
         id = word or name or shown or number
         if not id:
-            raise NoScreen("no frame id with the screen, and row 0 shows none", line)
+            raise NoScreen(f"no frame id: {WAYS_TO_NAME}", line)
         frames.setdefault(id, []).append(Screen(path, 0, price, cells, line))
     return frames
 

@@ -116,7 +116,7 @@ def show(text: bytes, frame: str | None, keys: str | None, asked: Asked) -> Answ
     groups = asked.groups
     id = None if frame is None else named(frame)
     if frame is not None and id is None:
-        raise Refused(f"error: '{frame}' is no frame and no page", 2)
+        raise Refused(f"error: '{frame}' is neither a frame (478a) nor a page (478)", 2)
     words = None if keys is None else keys_in(keys)
     base = base_of(text)
     ids = frames_of(base, groups, id) if words is None else frames_after_keys(base, groups, words)

@@ -106,7 +106,7 @@ is_start_by : (lead : Lead) (body : List ℕ) (r : Painted) → IsPainted lead b
 is_start_by lead body (Clean x) p = p.0
 is_start_by lead body (Touches i) p = at_first lead body i (start_at lead body i) p (means_at lead body i (start_at lead body i) refl)
 
--- of every frame
+-- for every frame
 pub is_start : (lead : Lead) (body : List ℕ) → IsStart lead body (start_of lead body (paint_of lead body))
 is_start lead body = is_start_by lead body (paint_of lead body) (painted_law lead body)
 

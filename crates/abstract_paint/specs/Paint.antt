@@ -170,7 +170,7 @@ pub record IsExact (lead : Lead) (body : List ℕ) : Type 0 where
   pub touches : (i : ℕ) → (paint_of lead body ≡ Touches i) ↔ IsFirstTouch lead body i
   pub some_cursor : IsClean lead body → (x : AbsCursor) × (paint_of lead body ≡ Clean x)
 
--- of every frame
+-- for every frame
 abbrev pub PaintIsExact : Type 0
 PaintIsExact = (lead : Lead) (body : List ℕ) → IsExact lead body
 

@@ -29,7 +29,7 @@ PlainGoesOn =
     n ≤ room p →
     paint_from (calm (Spot p)) i bytes ≡ paint_from (calm (Spot (p + n))) (i + n) (drop n bytes)
 
--- of more than there is room for, the first without room touches
+-- among more codes than there is room for, the first without room touches
 abbrev pub PlainReaches : Type 0
 PlainReaches =
     (bytes : List ℕ) (p i : ℕ) →

@@ -29,7 +29,7 @@ unlisted found id has =
     let some = Any-from_list_any (λ (d : Discovered). id_eq id d.id) found (sym (has_found found id) ∙ has) in
     (some.0, some.1, some.2, some.3, sym (id_eq_same id some.1.id some.4))
 
--- of the list of the reached frames they are exactly those that are reached
+-- the ids in the list of the reached frames are exactly those that are reached
 pub are_reached : (caller : List ℕ) (base : BaseView) (found : List Discovered) → FindsReached caller base found → AreReached caller base (discovered_ids found)
 are_reached caller base found finds = record {
   each = λ id. (λ walked. listed found id ((finds.reached id).0 walked), λ has. (finds.reached id).1 (unlisted found id has));

@@ -28,7 +28,7 @@ map_head = codes "digraph {\n  rankdir=LR\n  newrank=true\n  node [shape=box]\n"
 abbrev pub lines_of : MapView → List Frame → List ℕ
 lines_of m frames = map_head ++ cluster_lines m None frames ++ lost_lines m frames ++ flat_map (edge_lines_of m) frames ++ codes "}\n"
 
--- of the frames that are shown
+-- the lines of the frames that are shown
 abbrev pub map_lines : MapView → List ℕ
 map_lines m = lines_of m (frames_shown m m.base.frames)
 

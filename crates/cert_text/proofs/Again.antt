@@ -103,7 +103,7 @@ cursor_again x is =
 abbrev pub AllAbove : ℕ → List ℕ → Type 0
 AllAbove m bytes = AllByRecursion (λ b. m ≤ b) bytes
 
--- of a literal, by computing
+-- computed for a list that is given
 pub above_all : (m : ℕ) (xs : List ℕ) → list_all (λ b. leb m b) xs ≡ true → AllAbove m xs
 above_all m [] h = tt
 above_all m (x ∷ xs) h =

@@ -49,7 +49,7 @@ fits_22 p (c ∷ cs) h lo hi =
     let s = serves_22 p c (c == 141) refl lo (omega arith) in
     rw (cell c b.0) (rw s (rw (fits_22 (p + 1) cs b.1 (omega arith) (omega arith)) (neither (c == 141) (has_double_height cs))))
 
--- of codes that don't fit the first that doesn't touches
+-- if codes don't fit, the first that doesn't touches
 codes_touch : (cs rest : List ℕ) (p i : ℕ) → are_row_codes cs ≡ true → codes_fit p cs ≡ false → (j : ℕ) × (paint_from (calm (Spot p)) i (cs ++ rest) ≡ Touches j)
 codes_touch [] rest p i h f = cc
 codes_touch (c ∷ cs) rest p i h f =

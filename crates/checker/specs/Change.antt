@@ -131,12 +131,12 @@ pub record IsSafeOverChanges (policy : Policy) (first : Edition) (more : List Ed
   pub opened : HasRows first.cert.rows (opening first.base)
   pub crossed : (state : SessionState) → HasRows first.cert.rows state → HoldsOverChanges policy state first more
 
--- of every list of at least two editions, each cleared against the one before it. The premise of the bases is what every base
+-- every list of at least two editions, each cleared against the one before it. The premise of the bases is what every base
 -- keeps: no frame is on an outside page
 abbrev pub ChangesAreSafe : Type 0
 ChangesAreSafe = (policy : Policy) (first second : Edition) (more : List Edition) → AllByRecursion (λ e. AreApart e.base) (first ∷ second ∷ more) → AreCleared policy (first ∷ second ∷ more) → IsSafeOverChanges policy first (second ∷ more)
 
--- of one change: callers are safe in the old edition, in which sessions open; and from every such state, the opening one too,
+-- for one change: callers are safe in the old edition, in which sessions open; and from every such state, the opening one too,
 -- after any keys in the old edition and any in the new one
 pub record IsSafeChange (policy : Policy) (old : BaseView) (old_cert : CertView) (new : BaseView) (new_cert : CertView) : Type 0 where
   pub safe : Safe policy.groups old old_cert.ceiling old_cert.keyings

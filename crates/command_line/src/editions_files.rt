@@ -29,11 +29,11 @@ fn share_lock<R: Files<File = File>>(
     }
 }
 
-// Why a folder can't be read, if it can't.
-fn shut<R: Files>(rt: &R, folder: &str) -> Option<Unfinished> {
+/// Why a folder can't be read, if it can't.
+pub fn shut<R: Files>(rt: &R, folder: &str) -> Option<Unfinished> {
     match fs::metadata(rt, folder) {
         Ok(there) if there.is_dir() => None,
-        Ok(_) => Some(Unfinished::Unread("not a directory")),
+        Ok(_) => Some(Unfinished::Unread("not a folder")),
         Err(error) if error.kind() == io::ErrorKind::NotFound => {
             Some(Unfinished::Unread("no such folder"))
         }

@@ -194,7 +194,7 @@ fn make_folder<R: Files>(rt: &R, path: &str) -> Result<(), Unfinished> {
     match fs::create_dir_all(rt, path) {
         Ok(()) => Ok(()),
         Err(error) if error.kind() == io::ErrorKind::AlreadyExists => {
-            Err(Unfinished::Unwritten("not a directory"))
+            Err(Unfinished::Unwritten("not a folder"))
         }
         Err(error) => Err(unwritten(&error)),
     }

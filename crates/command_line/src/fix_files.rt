@@ -80,21 +80,24 @@ pub fn replace_text<R: Files + AllocGlobal>(
     }
 }
 
-/// Prints what fixing a base's slips would change; whether there is something.
+/// Prints what fixing a base's slips would change. If that is nothing, the base's text is given back.
 pub fn print_diff<R: Files + Input + Print + AllocGlobal>(
     rt: &R,
     path: &str,
     policy: &Policy,
-) -> Result<bool, Unfinished> {
+) -> Result<Option<Vec<u8>>, Unfinished> {
     let (old, fixed) = match fixed_text(rt, path, policy) {
         Ok(texts) => texts,
         Err(unfinished) => return Err(unfinished),
     };
-    match diff_text(rt.alloc(), path, old.as_slice(), fixed.text.as_slice()) {
-        Ok(diff) => match print_text(rt, diff.as_slice()) {
-            Ok(()) => Ok(!diff.is_empty()),
-            Err(unfinished) => Err(unfinished),
-        },
-        Err(_) => Err(Unfinished::Fault(RunFault::Memory)),
+    let Ok(diff) = diff_text(rt.alloc(), path, old.as_slice(), fixed.text.as_slice()) else {
+        return Err(Unfinished::Fault(RunFault::Memory));
+    };
+    if diff.is_empty() {
+        return Ok(Some(old));
+    }
+    match print_text(rt, diff.as_slice()) {
+        Ok(()) => Ok(None),
+        Err(unfinished) => Err(unfinished),
     }
 }

@@ -96,6 +96,23 @@ fn take_file<R: Files + Input + Eprint + AllocGlobal>(
     }
 }
 
+// Says what is wrong with a line of a text.
+fn report_line<R: Eprint>(rt: &R, path: &str, at: FaultyLine) {
+    let line = at.line;
+    let _ = match at.fault {
+        TextLineFault::Two => eprintln!(rt; "{path}:{line}: two addresses in a line"),
+        TextLineFault::Letters(letters) => {
+            eprintln!(rt;
+                "{path}:{line}: an address with {letters} characters; a screen has 1120 or 1167"
+            )
+        }
+        TextLineFault::Row => {
+            eprintln!(rt; "{path}:{line}: no row number after OL, of one or two digits")
+        }
+        TextLineFault::Pages => eprintln!(rt; "{path}:{line}: a file has at most 65535 pages"),
+    };
+}
+
 // Says what is wrong with a file's bytes.
 fn report_screen<R: Eprint>(rt: &R, path: &str, fault: ScreenFault) {
     let _ = match fault {
@@ -103,42 +120,17 @@ fn report_screen<R: Eprint>(rt: &R, path: &str, fault: ScreenFault) {
         ScreenFault::TooLong => eprintln!(rt; "{path}: more than 16,777,216 bytes"),
         ScreenFault::Size(size) => {
             eprintln!(rt;
-                "{path}: size {size}; a screen has 960, 1000, 1024 or 880 bytes, an EP1 file 968 or 1008; --stream reads what a line carried"
+                "{path}: size {size}; a screen has 960, 1000, 1024 or 880 bytes, an EP1 file 968 or 1008; TTI and addresses are text; a capture of a call needs --stream"
             )
         }
-        ScreenFault::Text(
-            FaultyLine {
-                line,
-                fault: TextLineFault::Two,
-            },
-        ) => eprintln!(rt; "{path}:{line}: two addresses in a line"),
-        ScreenFault::Text(
-            FaultyLine {
-                line,
-                fault: TextLineFault::Letters(letters),
-            },
-        ) => {
-            eprintln!(rt;
-                "{path}:{line}: an address with {letters} letters; a screen has 1120 or 1167"
-            )
-        }
-        ScreenFault::Text(
-            FaultyLine {
-                line,
-                fault: TextLineFault::Row,
-            },
-        ) => eprintln!(rt; "{path}:{line}: no row number after OL, of one or two digits"),
-        ScreenFault::Text(
-            FaultyLine {
-                line,
-                fault: TextLineFault::Pages,
-            },
-        ) => eprintln!(rt; "{path}:{line}: a file has at most 65535 pages"),
+        ScreenFault::Text(at) => return report_line(rt, path, at),
         ScreenFault::NoIdAt(line) => {
-            eprintln!(rt; "{path}:{line}: no frame id with the screen, and row 0 shows none")
+            eprintln!(rt;
+                "{path}:{line}: no frame id: write it before the address, e.g. 100a https://.., or in TTI as PN,10001"
+            )
         }
         ScreenFault::NoId => {
-            eprintln!(rt; "{path}: no frame id in the name, and row 0 shows none")
+            eprintln!(rt; "{path}: no frame id: name the file by it, e.g. 478a.bin")
         }
         ScreenFault::TooManyScreens => {
             eprintln!(rt; "{path}: a capture has at most 65535 screens")

@@ -113,35 +113,47 @@ fn fix_path<R: Files + Input + Print + AllocGlobal>(
     }
 }
 
+// Prints what would be fixed in a base. If that is nothing, its findings are counted.
 fn diff_path<R: Files + Input + Print + AllocGlobal>(
     rt: &R,
     path: &str,
     asked: &Lint,
+    how: &LintReport,
 ) -> Result<Sum, Unfinished> {
     match print_diff(rt, path, &asked.policy) {
-        Ok(differs) => Ok(Sum { differs, ..NOTHING }),
+        Ok(Some(text)) => {
+            match lint_text(rt.alloc(), io::sink(), path, text.as_slice(), asked, how) {
+                Ok(counts) => Ok(found(counts, 0)),
+                Err(unfinished) => Err(unfinished),
+            }
+        }
+        Ok(None) => Ok(Sum {
+            differs: true,
+            ..NOTHING
+        }),
         Err(unfinished) => Err(unfinished),
     }
 }
 
 // The numbers of fixes and findings, if there are some. Without memory for the line it isn't printed: the findings are.
-fn print_sum<R: Eprint + AllocGlobal>(rt: &R, sum: &Sum) {
+fn print_sum<R: Eprint + AllocGlobal>(rt: &R, fixing: Fixing, sum: &Sum) {
     let Ok(text) = counted_text(rt.alloc(), &sum.counts) else {
         return;
     };
     let Ok(line) = str::from_utf8(text.as_slice()) else {
         return;
     };
-    let _ = match (sum.fixes, line.is_empty()) {
-        (0, _) => eprint!(rt; "{line}"),
-        (fixes, true) => eprintln!(rt; "{fixes} fixed"),
-        (fixes, false) => eprint!(rt; "{fixes} fixed, {line}"),
+    let _ = match (fixing, sum.fixes, line.is_empty()) {
+        (Fixing::Shown, _, false) => eprint!(rt; "nothing to fix, {line}"),
+        (_, 0, _) => eprint!(rt; "{line}"),
+        (_, fixes, true) => eprintln!(rt; "{fixes} fixed"),
+        (_, fixes, false) => eprint!(rt; "{fixes} fixed, {line}"),
     };
 }
 
 /// Prints the numbers of findings, if there are some. Without memory for the line it isn't printed: the findings are.
 pub fn print_counts<R: Eprint + AllocGlobal>(rt: &R, counts: &Counts) {
-    print_sum(rt, &found(*counts, 0));
+    print_sum(rt, Fixing::None, &found(*counts, 0));
 }
 
 // What is printed of findings: the form `full` is in colour if it was asked for, or suits standard output.
@@ -163,8 +175,8 @@ fn report_of<R: Files + Env + AllocGlobal>(rt: &R, asked: &Lint) -> Result<LintR
 }
 
 /// Prints the findings of each base, or what would be fixed in it, and on standard error how many fixes and findings there are in
-/// all, unless it is to be quiet; the exit status. A base that can't be read or replaced is named there and makes the status 3, and the
-/// others are judged. Nothing is judged after a write that failed or memory that was refused.
+/// all, unless it is to be quiet or there is a diff; the exit status. A base that can't be read or replaced is named there and makes
+/// the status 3, and the others are judged. Nothing is judged after a write that failed or memory that was refused.
 pub fn lint<R: Files + Env + Input + Print + Eprint + AllocGlobal>(
     rt: &R,
     errors: Stderr,
@@ -173,6 +185,14 @@ pub fn lint<R: Files + Env + Input + Print + Eprint + AllocGlobal>(
     match report_of(rt, asked) {
         Ok(report) => lint_bases(rt, errors, asked, report),
         Err(fault) => report(rt, "output", &Unfinished::Fault(fault)),
+    }
+}
+
+// The exit status of bases that were all read: of diffs 1 if there is one.
+fn end_status(asked: &Lint, sum: &Sum) -> u8 {
+    match asked.fixing {
+        Fixing::Shown => u8::from(sum.differs),
+        _ => status_of_lint(&Ok(sum.counts), asked.denied),
     }
 }
 
@@ -188,7 +208,7 @@ fn lint_bases<R: Files + Input + Print + Eprint + AllocGlobal>(
         let done = match asked.fixing {
             Fixing::None => lint_path(rt, path, asked, &how),
             Fixing::Made => fix_path(rt, &errors, path, asked, &how),
-            Fixing::Shown => diff_path(rt, path, asked),
+            Fixing::Shown => diff_path(rt, path, asked, &how),
         };
         match done {
             Ok(more) => sum.add(&more),
@@ -201,9 +221,8 @@ fn lint_bases<R: Files + Input + Print + Eprint + AllocGlobal>(
             }
         }
     }
-    if !how.is_quiet {
-        print_sum(rt, &sum);
+    if !how.is_quiet && !sum.differs {
+        print_sum(rt, asked.fixing, &sum);
     }
-    let status = status_of_lint(&Ok(sum.counts), asked.denied);
-    failed.unwrap_or(status.max(u8::from(sum.differs)))
+    failed.unwrap_or(end_status(asked, &sum))
 }

@@ -192,55 +192,62 @@ fn run_matches<R: Files<File = File> + Env + Input + Print + Eprint + AllocGloba
     }
 }
 
+// The exit status of a run, whose fault is reported.
+fn status_after<R: Eprint + AllocGlobal>(rt: &R, run: Result<Status, RunFault>) -> u8 {
+    match &run {
+        Err(fault) => fail(rt, fault),
+        Ok(_) => status_of(&run),
+    }
+}
+
+// Says that no frame is named by a word.
+fn report_no_frame<R: Eprint>(rt: &R, word: &str) -> u8 {
+    let _ = eprintln!(rt; "error: '{word}' is neither a frame (478a) nor a page (478)");
+    2
+}
+
+// Says why the words can't be used together.
+fn report_misused<R: Eprint>(rt: &R, why: &str) -> u8 {
+    let _ = eprintln!(rt; "error: {why}");
+    2
+}
+
 // Runs what was asked for.
 fn run_request<R: Files<File = File> + Env + Input + Print + Eprint + AllocGlobal + Clone + Drop>(
     rt: &R,
     errors: Stderr,
     request: &Request,
 ) -> u8 {
-    let run = match request {
-        Request::Audit {
-            base,
-            out: None,
-            policy,
-        } => audit_file(rt, base, policy),
-        Request::Audit {
-            base,
-            out: Some(out),
-            policy,
-        } => audit_into(rt, errors, base, out, policy),
-        Request::Check { base, cert, policy } => check_files(rt, base, cert, policy),
+    match request {
+        Request::Audit { base, out, policy } => status_after(
+            rt,
+            audit(rt, errors, base, *out, policy),
+        ),
+        Request::Check { base, cert, policy } => status_after(
+            rt,
+            check_files(rt, base, cert, policy),
+        ),
         Request::Change {
             old,
             old_cert,
             new,
             new_cert,
             policy,
-        } => change_files(rt, [old, old_cert, new, new_cert], policy),
-        Request::Walk { base, keys, groups } => walk_file(rt, base, keys, groups),
-        Request::List { base, form, groups } => return list(rt, base, *form, groups),
-        Request::Lint(asked) => return lint(rt, errors, asked),
-        Request::Map { base, view, groups } => return map(rt, base, view, groups),
-        Request::Show(asked) => return show(rt, errors, asked),
-        Request::Pages(asked) => return pages(rt, errors, asked),
-        Request::Import(asked) => return import(rt, asked),
-        Request::Export(asked) => return export(rt, asked),
-        Request::Serve(asked) => return serve_call(rt, asked),
-        Request::Publish(asked) => return publish(rt, errors, asked),
-        Request::Editions { folder, verify } => return show_editions(rt, folder, *verify),
-        Request::Misused { why } => {
-            let _ = eprintln!(rt; "error: {why}");
-            return 2;
-        }
-        Request::NoFrame { word } => {
-            let _ = eprintln!(rt; "error: '{word}' is no frame and no page");
-            return 2;
-        }
-        Request::Explain { word } => return explain(rt, *word),
-    };
-    match &run {
-        Err(fault) => fail(rt, fault),
-        Ok(_) => status_of(&run),
+        } => status_after(rt, change_files(rt, [old, old_cert, new, new_cert], policy)),
+        Request::Walk { base, keys, groups } => status_after(rt, walk_file(rt, base, keys, groups)),
+        Request::List { base, form, groups } => list(rt, base, *form, groups),
+        Request::Lint(asked) => lint(rt, errors, asked),
+        Request::Map { base, view, groups } => map(rt, base, view, groups),
+        Request::Show(asked) => show(rt, errors, asked),
+        Request::Pages(asked) => pages(rt, errors, asked),
+        Request::Import(asked) => import(rt, asked),
+        Request::Export(asked) => export(rt, asked),
+        Request::Serve(asked) => serve_call(rt, asked),
+        Request::Publish(asked) => publish(rt, errors, asked),
+        Request::Editions { folder, verify } => show_editions(rt, folder, *verify),
+        Request::Misused { why } => report_misused(rt, why),
+        Request::NoFrame { word } => report_no_frame(rt, word),
+        Request::Explain { word } => explain(rt, *word),
     }
 }
 
@@ -311,6 +318,20 @@ fn opened<R: Files + Input>(
     }
 }
 
+// The certificate goes to standard output, or into a file of its own.
+fn audit<R: Files + Input + Print + AllocGlobal>(
+    rt: &R,
+    errors: Stderr,
+    base: &str,
+    out: Option<&str>,
+    policy: &Policy,
+) -> Result<Status, RunFault> {
+    match out {
+        Some(out) => audit_into(rt, errors, base, out, policy),
+        None => audit_file(rt, base, policy),
+    }
+}
+
 fn audit_file<R: Files + Input + Print + AllocGlobal>(
     rt: &R,
     base: &str,
@@ -322,7 +343,7 @@ fn audit_file<R: Files + Input + Print + AllocGlobal>(
     run_audit(rt.alloc(), &mut base, &mut out, policy)
 }
 
-// The certificate goes into a file of its own. Without memory to open it, that is the fault.
+// Without memory to open the certificate's file, that is the fault.
 fn audit_into<R: Files + Input + Print + AllocGlobal>(
     rt: &R,
     errors: Stderr,

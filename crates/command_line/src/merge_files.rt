@@ -14,12 +14,12 @@ use pageaudit::Settled;
 use std::alloc::{AllocError, Global};
 use std::rt::Files;
 
-// Adds a number of frames and their ids to a sentence, if there are some. The first number says of what.
-fn push_part(text: &mut Vec<u8>, ids: &[FrameId], verb: &[u8]) -> Result<(), AllocError> {
-    if ids.is_empty() {
+// Adds a number of frames to a sentence, if there are some. The first number says of what.
+fn push_count(text: &mut Vec<u8>, count: usize, verb: &[u8]) -> Result<(), AllocError> {
+    if count == 0 {
         return Ok(());
     }
-    let noun: &[u8] = match (text.is_empty(), ids.len()) {
+    let noun: &[u8] = match (text.is_empty(), count) {
         (false, _) => b"",
         (true, 1) => b" frame",
         (true, _) => b" frames",
@@ -27,25 +27,36 @@ fn push_part(text: &mut Vec<u8>, ids: &[FrameId], verb: &[u8]) -> Result<(), All
     if !text.is_empty() {
         text.extend_from_slice(b", ")?;
     }
-    push_number(text, ids.len() as u64)?;
+    push_number(text, count as u64)?;
     text.extend_from_slice(noun)?;
-    text.extend_from_slice(verb)?;
+    text.extend_from_slice(verb)
+}
+
+// Adds a number of frames and their ids to a sentence, if there are some.
+fn push_part(text: &mut Vec<u8>, ids: &[FrameId], verb: &[u8]) -> Result<(), AllocError> {
+    if ids.is_empty() {
+        return Ok(());
+    }
+    push_count(text, ids.len(), verb)?;
     for (at, id) in ids.iter().enumerate() {
-        if at > 0 {
-            text.push(b' ')?;
-        }
+        text.extend_from_slice(if at == 0 { b" (" } else { b" " })?;
         push_id(text, *id)?;
     }
     text.push(b')')?;
     Ok(())
 }
 
-// What became of the frames, as `2 frames replaced (4001a 4002a), 1 added (4003a)`.
+// What became of the frames, as `2 frames replaced (4001a 4002a), 1 added (4003a), 5 unchanged`.
 fn sum_text(alloc: Global, merged: &Merged) -> Result<Vec<u8>, AllocError> {
     let mut text = Vec::new(alloc);
-    push_part(&mut text, merged.replaced.as_slice(), b" replaced (")?;
-    push_part(&mut text, merged.added.as_slice(), b" added (")?;
-    push_part(&mut text, merged.left.as_slice(), b" not replaced (")?;
+    push_part(&mut text, merged.replaced.as_slice(), b" replaced")?;
+    push_part(&mut text, merged.added.as_slice(), b" added")?;
+    push_part(
+        &mut text,
+        merged.left.as_slice(),
+        b" left, with lead = \"keep\"",
+    )?;
+    push_count(&mut text, merged.same.len(), b" unchanged")?;
     Ok(text)
 }
 
@@ -105,7 +116,7 @@ fn report_spoilt<R: Eprint + AllocGlobal>(rt: &R, base: &str, fault: BaseFault) 
     if fault.cause == BaseCause::Memory {
         return fail(rt, &RunFault::Memory);
     }
-    let _ = eprintln!(rt; "{base}: with these frames it would be no base, so it stays as it is");
+    let _ = eprintln!(rt; "{base}: with these frames it isn't a base; nothing was changed");
     fail(rt, &RunFault::Base(fault))
 }
 

@@ -92,7 +92,7 @@ fn make_policy<R: Files>(rt: &R, alloc: Global, folder: &str) -> io::Result<Foun
     Ok(Found::Made)
 }
 
-// Makes the folder, with what leads to it.
+// Makes the folder, with what leads to it, if it isn't there.
 fn make_folder<R: Files>(rt: &R, folder: &str) -> Result<(), Shut> {
     if folder.is_empty() {
         return Err(Shut {
@@ -100,9 +100,16 @@ fn make_folder<R: Files>(rt: &R, folder: &str) -> Result<(), Shut> {
             why: Unfinished::Unwritten("no such folder"),
         });
     }
-    match make_flushed(rt, folder) {
-        Ok(()) => Ok(()),
-        Err(error) => Err(shut_by("", &error)),
+    match fs::metadata(rt, folder) {
+        Ok(there) if there.is_dir() => Ok(()),
+        Ok(_) => Err(Shut {
+            name: "",
+            why: Unfinished::Unwritten("not a folder"),
+        }),
+        Err(_) => match make_flushed(rt, folder) {
+            Ok(()) => Ok(()),
+            Err(error) => Err(shut_by("", &error)),
+        },
     }
 }
 
@@ -115,11 +122,8 @@ fn parent<'a>(path: &'a str) -> &'a str {
     }
 }
 
-// Makes the folder, if it isn't there, and flushes its name to the disk.
+// Makes a folder that isn't there, and flushes its name to the disk.
 fn make_flushed<R: Files>(rt: &R, folder: &str) -> io::Result<()> {
-    if fs::metadata(rt, folder).is_ok() {
-        return Ok(());
-    }
     fs::create_dir_all(rt, folder)?;
     flush_folder(rt, parent(folder))
 }
@@ -196,7 +200,9 @@ pub fn report_edition<R: Files + Eprint + AllocGlobal>(
 }
 
 /// What is wrong with a `current` that names nothing.
-pub const NO_NUMBER: Unfinished = Unfinished::Unread("no number of an edition and a line end");
+pub const NO_NUMBER: Unfinished = Unfinished::Unread(
+    "has to hold an edition's number and a line end",
+);
 
 /// What is wrong with a file that isn't there.
 pub const NO_FILE: Unfinished = Unfinished::Unread("no such file");

@@ -3,6 +3,7 @@
 ghost use Rattle.std.specs.Prelude.{◌≡◌, false};
 
 use crate::edition_folder::FolderFiles;
+use crate::editions_files::shut;
 use crate::named_files::report;
 use crate::serve_line::{CallerInput, CallerOutput};
 use crate::serve_notes::CallNotes;
@@ -108,6 +109,17 @@ fn serve_form<R: Files + Input + Print + Eprint + AllocGlobal>(
     }
 }
 
+// Says that there is no edition, or no folder.
+fn report_unpublished<R: Files + Eprint + AllocGlobal>(rt: &R, folder: &str) -> u8 {
+    match shut(rt, folder) {
+        Some(why) => report(rt, folder, &why),
+        None => {
+            let _ = eprintln!(rt; "{folder}: nothing is published there");
+            3
+        }
+    }
+}
+
 /// Serves one call; the exit status.
 pub fn serve_call<R: Files + Input + Print + Eprint + AllocGlobal>(rt: &R, asked: &Serve) -> u8 {
     let path = asked.folder;
@@ -117,10 +129,7 @@ pub fn serve_call<R: Files + Input + Print + Eprint + AllocGlobal>(rt: &R, asked
     notes.end();
     match end {
         Ok(()) => 0,
-        Err(CallFault::Unpublished) => {
-            let _ = eprintln!(rt; "{path}: nothing is published there");
-            3
-        }
+        Err(CallFault::Unpublished) => report_unpublished(rt, path),
         Err(CallFault::Unnamed) => {
             let _ = eprintln!(rt; "{path}/current: names no edition");
             3

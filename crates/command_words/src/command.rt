@@ -146,7 +146,7 @@ fn color_option<'a>(alloc: Global) -> Arg<'a> {
         .action(ArgAction::Set)
         .value_parser(COLOURINGS)
         .default_value("auto")
-        .help("Print the form full in colour; auto is if standard output is a terminal")
+        .help("Colour the full form; auto: if standard output is a terminal")
 }
 
 // The options of what is printed.
@@ -164,14 +164,13 @@ fn with_fixes<'a>(alloc: Global, command: Command<'a>) -> Result<Command<'a>, Al
     let fix = flag(
         alloc,
         "fix",
-        "Fix each slip that can have meant one thing alone, and find what is left",
+        "Fix each slip that can have meant only one thing, and find what is left",
     );
     let diff = flag(
         alloc,
         "diff",
         "Print what --fix would change as a diff, and change nothing",
-    )
-    .conflicts_with("fix")?;
+    );
     command.arg(fix)?.arg(diff)
 }
 
@@ -392,25 +391,28 @@ fn entry_option<'a>(alloc: Global) -> Arg<'a> {
         .help("The base's entry page; without it the smallest page")
 }
 
+fn into_option<'a>(alloc: Global) -> Result<Arg<'a>, AllocError> {
+    Arg::new(alloc, "into")
+        .long("into")
+        .value_name("BASE")
+        .action(ArgAction::Set)
+        .help("Put the frames into BASE, and change only the rows of these frames")
+        .conflicts_with("entry")
+}
+
 fn import_command<'a>(alloc: Global) -> Result<Command<'a>, AllocError> {
     let screens = place(
         alloc,
         "SCREEN",
-        "Files of screens, named by a frame, e.g. 478a.bin, or with its id in row 0, or folders of them",
+        "Files of screens, or folders of them; - is standard input. A name as 478a.bin, or row 0, says the frame",
     )
     .num_args(1..)
     .action(ArgAction::Append);
-    let into = Arg::new(alloc, "into")
-        .long("into")
-        .value_name("BASE")
-        .action(ArgAction::Set)
-        .help("Put the frames into BASE, which stays as it is but for what they show")
-        .conflicts_with("entry")?;
     Command::new(alloc, "import")
         .about("Make a base of saved screens, or put them into one")
         .after_help(help::IMPORT)
         .arg(screens)?
-        .arg(into)?
+        .arg(into_option(alloc)?)?
         .arg(flag(
             alloc,
             "diff",
@@ -472,7 +474,7 @@ fn serve_command<'a>(alloc: Global) -> Result<Command<'a>, AllocError> {
         .arg(place(
             alloc,
             "FOLDER",
-            "The folder, of which the file current names an edition",
+            "The folder of editions; its file current names the one served",
         ))?
         .arg(form)?
         .arg(flag(
@@ -496,7 +498,7 @@ fn publish_command<'a>(alloc: Global) -> Result<Command<'a>, AllocError> {
         .arg(flag(
             alloc,
             "new-callers",
-            "If the change is refused, publish for new callers alone",
+            "If the change is refused, publish only for new callers",
         ))?
         .arg(flag(alloc, "deny-warnings", "Don't publish a base with warnings"))?
         .arg(
@@ -583,7 +585,7 @@ fn collected(rt: &(impl Env + AllocGlobal), alloc: Global) -> io::Result<Vec<Str
     Ok(env::args(rt)?.collect(alloc)?)
 }
 
-/// What is done about slips that can have meant one thing alone.
+/// What is done about slips that can have meant only one thing.
 #[derive(Debug, Clone, Copy, PartialEq, Eq)]
 pub enum Fixing {
     /// They are found as all others.
@@ -699,7 +701,7 @@ pub struct Publish<'a> {
     pub folder: &'a str,
     /// Whether nothing is written.
     pub dry_run: bool,
-    /// Whether a refused change is published for new callers alone.
+    /// Whether a refused change is published only for new callers.
     pub new_callers: bool,
     /// Whether warnings stop it.
     pub deny_warnings: bool,
@@ -872,11 +874,12 @@ fn list_form_of(word: &str) -> Option<ListForm> {
     }
 }
 
+// With both flags nothing is changed.
 fn fixing_of(words: &ArgMatches) -> Fixing {
-    if words.get_flag("fix") {
-        Fixing::Made
-    } else if words.get_flag("diff") {
+    if words.get_flag("diff") {
         Fixing::Shown
+    } else if words.get_flag("fix") {
+        Fixing::Made
     } else {
         Fixing::None
     }
@@ -1073,24 +1076,32 @@ fn publish_of<'a>(words: &'a ArgMatches) -> Option<Request<'a>> {
     }))
 }
 
+fn audit_of<'a>(words: &'a ArgMatches, groups: Groups) -> Option<Request<'a>> {
+    Some(Request::Audit {
+        base: words.get_str("BASE")?,
+        out: words.get_str("out"),
+        policy: policy_of(words, groups)?,
+    })
+}
+
+fn change_of<'a>(words: &'a ArgMatches, groups: Groups) -> Option<Request<'a>> {
+    Some(Request::Change {
+        old: words.get_str("OLD")?,
+        old_cert: words.get_str("OLDCERT")?,
+        new: words.get_str("NEW")?,
+        new_cert: words.get_str("NEWCERT")?,
+        policy: policy_of(words, groups)?,
+    })
+}
+
 /// What the words ask for, by a caller of these groups. There always is a request: clap has taken each word that a command
 /// requires.
 pub fn asked_for<'a>(matches: &'a ArgMatches, groups: Groups) -> Option<Request<'a>> {
     match matches.subcommand()? {
         ("lint", words) => lint_of(words, groups),
-        ("audit", words) => Some(Request::Audit {
-            base: words.get_str("BASE")?,
-            out: words.get_str("out"),
-            policy: policy_of(words, groups)?,
-        }),
+        ("audit", words) => audit_of(words, groups),
         ("check", words) => check_of(words, groups),
-        ("change", words) => Some(Request::Change {
-            old: words.get_str("OLD")?,
-            old_cert: words.get_str("OLDCERT")?,
-            new: words.get_str("NEW")?,
-            new_cert: words.get_str("NEWCERT")?,
-            policy: policy_of(words, groups)?,
-        }),
+        ("change", words) => change_of(words, groups),
         ("walk", words) => Some(Request::Walk {
             base: words.get_str("BASE")?,
             keys: words.get_str("KEYS")?,

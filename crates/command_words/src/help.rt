@@ -1,7 +1,7 @@
 //! What follows the options in each command's help: an example, and the exit statuses.
 
 /// The program's version, which the list of changes names too.
-pub const VERSION: &str = "1.1.0";
+pub const VERSION: &str = "1.2.0";
 
 /// After the commands.
 pub const COMMANDS: &str = concat!(
@@ -11,16 +11,16 @@ pub const COMMANDS: &str = concat!(
 
 /// After the options of `lint`.
 pub const LINT: &str = concat!(
-    "--fix changes the file and nothing of it but those slips: 'price = \"5\"' is 'price = 5'. What a\n",
-    "frame shows stays. Of standard input the fixed text is printed, and findings on standard error.\n",
+    "--fix changes only those slips in the file: 'price = \"5\"' becomes 'price = 5'. What a frame shows\n",
+    "stays. For standard input it prints the fixed text, and the findings on standard error.\n",
     "Warnings that --ignore names don't count; with -q they count and aren't printed. Colours are for\n",
     "the form full; auto is off if NO_COLOR is set. An object of JSON has file, level, code, message,\n",
     "hint, frame, key and keys, its span as line, column, end_line and end_column, both counted from 1,\n",
     "and fix: null, or a span and its new text.\n\n",
     "Examples: pageaudit lint examples/town.toml\n",
     "          pageaudit lint town.toml --fix\n\n",
-    "Status: 0 no error, 1 errors, or with --deny-warnings warnings, or a diff, 2 bad command line,\n",
-    "        3 a file that can't be read, or a write that fails, 4 out of memory",
+    "Status: 0 no error, 1 errors, with --deny-warnings warnings too, with --diff only a diff,\n",
+    "        2 bad command line, 3 a file that can't be read, or a write that fails, 4 out of memory",
 );
 
 /// After the options of `audit`.
@@ -93,12 +93,13 @@ pub const IMPORT: &str = concat!(
     "880 bytes are rows 1 to 22. An EP1 file has 968 or 1,008 bytes. A text has pages of TTI, or an\n",
     "address of edit.tf or zxnet in each line, after the frame's id. A capture has many screens: each\n",
     "is the frame whose id its row 0 shows. A folder is the files in it, without those in its folders.\n",
-    "The base has no routes: they are yet to be typed, or --routes guesses them: on page 478 a key 2\n",
-    "that the screen shows leads to page 4782, and 0 to page 47, if the base has it.\n",
-    "--into gives the frames of a base new rows, and adds the others at its end: routes, prices,\n",
-    "comments and all else stay to the byte. A frame with lead = \"keep\" stays as it is.\n\n",
-    "Example: pageaudit import examples/screens/*.bin >town.toml\n",
-    "         pageaudit import 478a.bin --into town.toml\n\n",
+    "The base has no routes: type them in, or let --routes guess them: on page 478 a key 2 that the\n",
+    "screen shows leads to page 4782, and 0 to page 47, if the base has it.\n",
+    "--into replaces what the frames of BASE show, their list of rows or body with the comments inside,\n",
+    "unless they show it already, and adds the others at its end. Nothing else changes, and a frame with\n",
+    "lead = \"keep\" stays as it is. With --into - the base is standard input, and the new one is printed.\n\n",
+    "Examples: pageaudit import examples/screens/*.bin >town.toml\n",
+    "          pageaudit import 478a.bin --into town.toml\n\n",
     "Status: 0 a base, 1 without the frames at fault (--skip-bad), or a diff, 2 bad command line,\n",
     "        3 a file that is refused or can't be read, two frames of one id, or a write that fails,\n",
     "        4 out of memory",
@@ -110,8 +111,8 @@ pub const EXPORT: &str = concat!(
     "'show --as cells' writes, one of ep1 the same for editors of teletext, one of tti its rows 0 to 22\n",
     "as lines for them, and one of link a line with the frame's id and its address, at which edit.tf\n",
     "shows it.\n\n",
-    "Example: pageaudit export examples/town.toml --out screens\n",
-    "         pageaudit export examples/town.toml --out links --as link && cat links/*.link\n\n",
+    "Examples: pageaudit export examples/town.toml --out screens\n",
+    "          pageaudit export examples/town.toml --out links --as link && cat links/*.link\n\n",
     "Status: 0 all screens, 2 bad command line,\n",
     "        3 a file that is refused or can't be read, is there already, or can't be written,\n",
     "        4 out of memory",
@@ -124,8 +125,8 @@ pub const SERVE: &str = concat!(
     "call takes its place before the next key, if the check clears the change. *90# ends the call, and\n",
     "so does the caller who leaves or rings off.\n\n",
     "With --as ansi each answer is the whole screen, and Enter is #.\n\n",
-    "Example: socat tcp-listen:6502,fork,reuseaddr,backlog=128 exec:'pageaudit serve live'\n",
-    "         sh -c 'stty -icanon -echo; pageaudit serve live --as ansi; stty sane'\n\n",
+    "Examples: socat tcp-listen:6502,fork,reuseaddr,backlog=128 exec:'pageaudit serve live'\n",
+    "          sh -c 'stty -icanon -echo; clear; pageaudit serve live --as ansi; stty sane'\n\n",
     "Status: 0 a call that ended, 1 an edition that isn't cleared, 2 bad command line,\n",
     "        3 a file that is missing, refused or can't be read, or a line that fails,\n",
     "        4 out of memory",

@@ -30,8 +30,8 @@ abbrev pub file_words : List ℕ → ℕ → EditionFile → List ℕ
 file_words folder n f = folder_words folder n ++ (file_name f ++ codes ": ")
 
 abbrev pub sum_words : EditionFile → List ℕ
-sum_words file.Sums = codes "it hasn't the sums of the other four files\n"
-sum_words _ = codes "its sum isn't the one in SHA256SUMS\n"
+sum_words file.Sums = codes "it lacks the sums of the other four files\n"
+sum_words _ = codes "it was changed: its sum isn't the one in SHA256SUMS\n"
 
 abbrev pub refused_line : List ℕ → ℕ → Verdict → List ℕ
 refused_line folder n v = file_words folder n file.Cert ++ verdict_text v
@@ -89,17 +89,17 @@ lacking_line folder n = folder ++ (codes "/current: edition " ++ (decimal n ++ c
 -- what is wrong with `current`
 abbrev pub current_line : List ℕ → FoundCurrent → List ℕ
 current_line folder (current.Lacking n) = lacking_line folder n
-current_line folder current.Unread = folder ++ codes "/current: no number of an edition and a line end\n"
+current_line folder current.Unread = folder ++ codes "/current: has to hold an edition's number and a line end\n"
 current_line folder c = []
 
 abbrev pub count_words : ℕ → List ℕ
 count_words count = decimal count ++ (if count == 1 then codes " edition" else codes " editions")
 
 abbrev pub number_words : ℕ → List ℕ
-number_words n = codes ", " ++ (decimal n ++ codes " is served\n")
+number_words n = codes "; edition " ++ (decimal n ++ codes " is served\n")
 
 abbrev pub served_words : FoundCurrent → List ℕ
-served_words current.Nothing = codes ", none is served\n"
+served_words current.Nothing = codes "; none is served\n"
 served_words (current.Edition n) = number_words n
 served_words (current.Lacking n) = number_words n
 served_words current.Unread = codes "\n"

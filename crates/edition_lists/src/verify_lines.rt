@@ -57,8 +57,8 @@ fn sum_words(file: EditionFile) -> &'static [u8]
     ensures { result.now ≡ spec.sum_words file }
 {
     match file {
-        EditionFile::Sums => b"it hasn't the sums of the other four files\n".as_slice(),
-        _ => b"its sum isn't the one in SHA256SUMS\n".as_slice(),
+        EditionFile::Sums => b"it lacks the sums of the other four files\n".as_slice(),
+        _ => b"it was changed: its sum isn't the one in SHA256SUMS\n".as_slice(),
     }
 }
 
@@ -224,7 +224,7 @@ fn push_current(out: &mut Vec<u8>, folder: &str, current: FoundCurrent) -> Resul
         FoundCurrent::Lacking(number) => push_lacking(out, folder, number),
         FoundCurrent::Unread => {
             out.extend_from_slice(folder.as_bytes())?;
-            out.extend_from_slice(b"/current: no number of an edition and a line end\n")
+            out.extend_from_slice(b"/current: has to hold an edition's number and a line end\n")
         }
         _ => Ok(()),
     }
@@ -245,9 +245,9 @@ fn push_served(out: &mut Vec<u8>, current: FoundCurrent) -> Result<(), AllocErro
     ensures { OnOk result (out.new.items ≡ out.old.items ++ spec.served_words current) }
 {
     match current {
-        FoundCurrent::Nothing => out.extend_from_slice(b", none is served\n"),
-        FoundCurrent::Edition(number) => push_numbered(out, b", ", number, b" is served\n"),
-        FoundCurrent::Lacking(number) => push_numbered(out, b", ", number, b" is served\n"),
+        FoundCurrent::Nothing => out.extend_from_slice(b"; none is served\n"),
+        FoundCurrent::Edition(number) => push_numbered(out, b"; edition ", number, b" is served\n"),
+        FoundCurrent::Lacking(number) => push_numbered(out, b"; edition ", number, b" is served\n"),
         FoundCurrent::Unread => out.extend_from_slice(b"\n"),
     }
 }

@@ -87,7 +87,7 @@ fn editions_that_were_published_are_verified(rt: HostRuntime) -> Result<(), Fail
     same_in(
         "said",
         said.as_slice(),
-        b"3 editions, 3 is served\nCLEARED\n".as_slice(),
+        b"3 editions; edition 3 is served\nCLEARED\n".as_slice(),
     )?;
     same(
         (run, status_of_editions(&run)),
@@ -106,7 +106,7 @@ fn nothing_is_published_in_a_new_folder(rt: HostRuntime) -> Result<(), Fail> {
     same(run, Ok(EditionsStatus::Cleared))?;
     same(
         said.as_slice(),
-        b"0 editions, none is served\nCLEARED\n".as_slice(),
+        b"0 editions; none is served\nCLEARED\n".as_slice(),
     )
 }
 
@@ -118,7 +118,7 @@ fn an_edition_that_a_stop_left_is_no_fault(rt: HostRuntime) -> Result<(), Fail> 
     same_in(
         "said",
         said.as_slice(),
-        b"edition 2 follows 1, and isn't served yet\n2 editions, 1 is served\nCLEARED\n".as_slice(),
+        b"edition 2 follows 1, and isn't served yet\n2 editions; edition 1 is served\nCLEARED\n".as_slice(),
     )?;
     same(run, Ok(EditionsStatus::Cleared))?;
     let (_, said) = listed(rt.alloc(), &mut store);
@@ -137,7 +137,7 @@ fn a_current_that_was_passed_is_refused(rt: HostRuntime) -> Result<(), Fail> {
         rt.alloc(),
         &mut store,
         "edition 2 follows 1, and is after the one that is served\n\
-edition 3 follows 2, and is after the one that is served\n3 editions, 1 is served\nREFUSED\n",
+edition 3 follows 2, and is after the one that is served\n3 editions; edition 1 is served\nREFUSED\n",
     )?;
     store.current = None;
     let (run, _) = verified(rt.alloc(), &mut store);
@@ -151,13 +151,13 @@ fn a_current_that_names_nothing_is_refused(rt: HostRuntime) -> Result<(), Fail> 
     refused(
         rt.alloc(),
         &mut store,
-        "live/current: edition 9 isn't there\n1 edition, 9 is served\nREFUSED\n",
+        "live/current: edition 9 isn't there\n1 edition; edition 9 is served\nREFUSED\n",
     )?;
     store.current = Some(copied(rt.alloc(), b"1")?);
     refused(
         rt.alloc(),
         &mut store,
-        "live/current: no number of an edition and a line end\n1 edition\nREFUSED\n",
+        "live/current: has to hold an edition's number and a line end\n1 edition\nREFUSED\n",
     )?;
     let (run, _) = listed(rt.alloc(), &mut store);
     same(run, Err(EditionsFault::Folder(FolderFault::Current)))
@@ -172,7 +172,7 @@ fn a_number_that_is_missing_is_named(rt: HostRuntime) -> Result<(), Fail> {
     refused(
         rt.alloc(),
         &mut store,
-        "edition 3 follows 2, which isn't there\n2 editions, 3 is served\nREFUSED\n",
+        "edition 3 follows 2, which isn't there\n2 editions; edition 3 is served\nREFUSED\n",
     )?;
     let (run, said) = listed(rt.alloc(), &mut store);
     same(run, Ok(EditionsStatus::Listed))?;
@@ -199,7 +199,14 @@ fn an_edition_that_comes_between_is_named(rt: HostRuntime) -> Result<(), Fail> {
     refused(
         rt.alloc(),
         &mut store,
-        "edition 3 follows 1, but edition 2 comes between them\n3 editions, 3 is served\nREFUSED\n",
+        "edition 3 follows 1, but edition 2 comes between them\n3 editions; edition 3 is served\nREFUSED\n",
+    )?;
+    // in the list it is compared with the first
+    let (_, said) = listed(rt.alloc(), &mut store);
+    same(
+        said.as_slice()
+            .ends_with(b"edition 3  served   follows 1  3 frames, 1 changed\n"),
+        true,
     )
 }
 
@@ -231,7 +238,7 @@ fn a_file_that_was_edited_is_named(rt: HostRuntime) -> Result<(), Fail> {
         *text = edited(rt.alloc(), text.as_slice(), old, new)?;
         let name = file.name();
         let said = format!(in rt.alloc();
-            "live/editions/2/{name}: its sum isn't the one in SHA256SUMS\n2 editions, 2 is served\nREFUSED\n"
+            "live/editions/2/{name}: it was changed: its sum isn't the one in SHA256SUMS\n2 editions; edition 2 is served\nREFUSED\n"
         )?;
         refused(rt.alloc(), &mut store, said.as_str())?;
     }
@@ -246,7 +253,7 @@ fn a_file_that_does_not_read_is_named(rt: HostRuntime) -> Result<(), Fail> {
     refused(
         rt.alloc(),
         &mut store,
-        "live/editions/1/base.cert: it isn't what was published\n1 edition, 1 is served\nREFUSED\n",
+        "live/editions/1/base.cert: it isn't what was published\n1 edition; edition 1 is served\nREFUSED\n",
     )?;
     let (run, _) = listed(rt.alloc(), &mut store);
     same(

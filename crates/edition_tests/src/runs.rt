@@ -151,7 +151,7 @@ fn a_policy_without_a_limit_is_named_with_its_place(rt: HostRuntime) -> Result<(
     same_in(
         "said",
         said.as_slice(),
-        b"live/policy.toml:1:1: error: key absent; keyings is a whole number, 0 to 65535\nceiling = 5\n^\n".as_slice(),
+        b"live/policy.toml:1:1: error: missing key; keyings is a whole number, 0 to 65535\nceiling = 5\n^\n".as_slice(),
     )
 }
 

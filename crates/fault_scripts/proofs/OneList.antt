@@ -81,7 +81,7 @@ module _ {X : Type 0} (R : X → X → Type 0) where
       cc
 
 module _ (base : BaseView) (policy : Policy) where
-  -- of two due faults only one is before the other
+  -- if two faults are due, only one is before the other
   one_before : (found : List Discovered) (finding : IsFinding policy.groups base found) (x y : Fault) → IsDue base policy found x → IsDue base policy found y → ComesBefore found x y → ComesBefore found y x → ⊥
   one_before found finding x y dx dy xy yx =
       let px = own_place base policy found finding x dx in

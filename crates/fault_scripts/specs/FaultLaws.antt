@@ -19,7 +19,7 @@ pub record HasJustTheDue (base : BaseView) (policy : Policy) (faults : List Faul
 abbrev pub FaultsAreDue : Type 0
 FaultsAreDue = (base : BaseView) (policy : Policy) (price : ℕ) (faults : List Fault) → seek_entry policy.groups base ≡ sought.Found price → AreFaults base policy faults → HasJustTheDue base policy faults
 
--- of every base and policy there is one list of faults
+-- every base and policy have one list of faults
 abbrev pub FaultsAreOne : Type 0
 FaultsAreOne = (base : BaseView) (policy : Policy) (a b : List Fault) → AreFaults base policy a → AreFaults base policy b → a ≡ b
 

@@ -69,6 +69,6 @@ pub record IsGroupsText (separator : ℕ) (text groups : List ℕ) : Type 0 wher
   pub some : groups ≢ []
   pub spelled : text ≡ groups_text separator groups
 
--- of every separator that is no digit: groups are read from just their own texts
+-- with every separator that is no digit, groups are read from just their own texts
 abbrev pub GroupsAreTexts : Type 0
 GroupsAreTexts = (separator : ℕ) (text groups : List ℕ) → is_ascii_digit separator ≡ false → (groups_in separator text ≡ Ok groups) ↔ IsGroupsText separator text groups

@@ -37,13 +37,13 @@ pub enum PolicyFault {
     #[error("unknown key")]
     UnknownKey,
     /// Y4: a required key is missing.
-    #[error("key absent")]
+    #[error("missing key")]
     Absent(PolicyField),
     /// Y5: a value of another kind.
-    #[error("value of another kind")]
+    #[error("wrong kind of value")]
     WrongKind(PolicyField),
     /// Y5: an item of `groups`, by its number from 1.
-    #[error("item of another kind")]
+    #[error("wrong kind of item")]
     WrongItem(usize),
     /// Y6: a value out of its range.
     #[error("value out of range")]

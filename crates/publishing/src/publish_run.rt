@@ -23,7 +23,7 @@ use edition_checks::{Candidate, Served, make_candidate};
 use editions::EditionStore;
 use std::alloc::Global;
 
-const NEW_BEGINNING: &[u8] = b"callers who are inside stay in the edition that they have\n";
+const NEW_BEGINNING: &[u8] = b"callers who are inside stay in their edition\n";
 
 const DRY: &[u8] = b"nothing was written\n";
 

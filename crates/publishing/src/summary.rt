@@ -50,12 +50,31 @@ pub(crate) fn push_already(out: &mut Vec<u8>, number: u32) -> Result<(), AllocEr
 pub(crate) fn push_other_groups(out: &mut Vec<u8>, number: u32) -> Result<(), AllocError> {
     out.extend_from_slice(b"policy.toml has other groups than edition ")?;
     push_number(out, u64::from(number))?;
-    out.extend_from_slice(b": callers of other groups have a folder of their own\nREFUSED\n")
+    out.extend_from_slice(b": callers of other groups need a folder of their own\nREFUSED\n")
 }
 
-// Whether a byte is a letter, a digit or a sign, and not the second half of a code.
-fn is_sign(before: u8, byte: u8) -> bool {
-    before != 0x1B && (0x21..=0x7E).contains(&byte)
+// Whether a byte is a letter, a digit or a sign, and neither the second half of a code nor a mosaic.
+fn is_sign(mosaics: bool, before: u8, byte: u8) -> bool {
+    let is_block = mosaics && !(0x40..=0x5F).contains(&byte);
+    before != 0x1B && !is_block && (0x21..=0x7E).contains(&byte)
+}
+
+// The column after a byte: one cell for each byte but the controls, of which a few lead to the first column.
+fn column_after(column: u8, byte: u8) -> u8 {
+    match byte {
+        b'\r' | 0x0C | 0x1E => 0,
+        0x00..=0x1F => column,
+        _ => column.saturating_add(1) % 40,
+    }
+}
+
+// Whether mosaics follow a byte in its line: until letters have a colour again. Rows have an attribute in one byte.
+fn mosaics_after(mosaics: bool, before: u8, byte: u8) -> bool {
+    match (before, byte) {
+        (0x1B, 0x51..=0x57) | (_, 0x91..=0x97) => true,
+        (0x1B, 0x41..=0x47) | (_, 0x81..=0x87) => false,
+        _ => mosaics,
+    }
 }
 
 // The first letters of a frame, with one space for all that is between two of them.
@@ -63,8 +82,10 @@ fn push_first_words(out: &mut Vec<u8>, body: &[u8]) -> Result<(), AllocError> {
     let mut left = MOST_LETTERS;
     let mut before = b' ';
     let mut gap = true;
+    let mut mosaics = false;
+    let mut column = 0;
     for byte in body {
-        let sign = left > 0 && is_sign(before, *byte);
+        let sign = left > 0 && is_sign(mosaics, before, *byte);
         if sign && gap {
             out.push(b' ')?;
         }
@@ -73,6 +94,8 @@ fn push_first_words(out: &mut Vec<u8>, body: &[u8]) -> Result<(), AllocError> {
             left = left.saturating_sub(1);
         }
         gap = !sign;
+        column = column_after(column, *byte);
+        mosaics = column > 0 && mosaics_after(mosaics, before, *byte);
         before = *byte;
     }
     Ok(())

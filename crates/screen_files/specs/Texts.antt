@@ -34,7 +34,7 @@ abbrev pub comment_by : List ℕ → List ℕ
 comment_by [] = []
 comment_by (c ∷ cs) = (codes "# " ++ (c ∷ cs)) ++ codes "\n"
 
--- of what a row of a screen shows; none of a blank one
+-- the comment of what a row of a screen shows; a blank one has none
 abbrev pub row_comment : List ℕ → ℕ → List ℕ
 row_comment screen row = comment_by (trimmed (map comment_code (take 40 (drop (40 * row) screen))))
 

@@ -321,10 +321,10 @@ fn found_in(
 /// The frames of a file of these bytes, or why it gives none. `file` is the number that they are filed under.
 ///
 /// A saved screen gives one frame, of the id in the file's name, else of the one that row 0 shows. A text with addresses of edit.tf, or
-/// of the form TTI, gives one for each screen: of the id beside an address, else of the one in the name of a file of one, in row 0 or
-/// in its page number. A capture of one screen gives the frame of that screen, and one of several, if none shows an id, that of its last
-/// one. Else each screen of a capture gives the frame whose id its row 0 shows, and those without are left out. The price is the one of
-/// row 0.
+/// of the form TTI, gives one for each screen: its id is the one beside an address, else the one in the name of a file of one, in
+/// row 0 or in its page number. A capture of one screen gives the frame of that screen, and one of several, if none shows an id,
+/// that of its last one. Else each screen of a capture gives the frame whose id its row 0 shows, and those without are left out. The
+/// price is the one of row 0.
 pub fn file_frames(
     alloc: Global,
     kind: FileKind,

@@ -57,6 +57,6 @@ pub record StartsAreEnough (lead : Lead) (body : List ℕ) : Type 0 where
   pub touch : (i : ℕ) → TouchesAt lead body i ↔ ((c : Caret) × (c.at < 960) × StartTouches lead body i c)
   pub ends : (p : ℕ) (q : Bool) → EndsAt lead body p q ↔ ((c : Caret) × (c.at < 960) × StartEnds lead body p q c)
 
--- of every lead and body
+-- for every lead and body
 abbrev pub StartsDecide : Type 0
 StartsDecide = (lead : Lead) (body : List ℕ) → StartsAreEnough lead body

@@ -89,7 +89,7 @@ pub record StoresWrites (t : Screen) (bytes : List ℕ) : Type 0 where
   pub others : (p : ℕ) → is_written p (writes t bytes) ≡ false → get_or (run t bytes).cells p 0 ≡ get_or t.cells p 0
   pub screen : IsScreen (run t bytes)
 
--- of every terminal and all bytes
+-- for every terminal and all bytes
 abbrev pub CellsAreWrites : Type 0
 CellsAreWrites = (t : Screen) (bytes : List ℕ) → IsScreen t → StoresWrites t bytes
 
@@ -106,6 +106,6 @@ pub record RunsAlike (t u : Screen) (bytes : List ℕ) : Type 0 where
   pub writes : writes t bytes ≡ writes u bytes
   pub ends : caret_of (run t bytes) ≡ caret_of (run u bytes)
 
--- of every two terminals and all bytes
+-- for every two terminals and all bytes
 abbrev pub CaretDecides : Type 0
 CaretDecides = (t u : Screen) (bytes : List ℕ) → caret_of t ≡ caret_of u → RunsAlike t u bytes

@@ -1,6 +1,9 @@
 """The stand-in for rt's own module."""
 
+from collections.abc import Sequence
 from pathlib import Path
+
+RATTLE = str(Path(__file__).resolve().with_name("rattle"))
 
 
 class Crate:
@@ -13,6 +16,12 @@ class Crate:
     def is_built(self) -> bool:
         last = (self.folder / "src" / "lib.rt").read_text().splitlines()[-1]
         return Path(self.rlib).with_name("stamp").read_text() == f"{last}\n"
+
+    def below(self) -> "list[Crate]":
+        return []
+
+    def words(self, words: Sequence[str], keeps: bool) -> list[str]:
+        return ["--crate-name", self.name, *words]
 
 
 def crates_below(top: str) -> list[Crate]:
