@@ -18,7 +18,7 @@
 #include <stdint.h>
 #include <string.h>
 
-#define PAGEAUDIT_VERSION "1.1.0"
+#define PAGEAUDIT_VERSION "1.2.0"
 
 /* Room for each line that pageaudit_check and pageaudit_change print. */
 #define PAGEAUDIT_LINE_ROOM 128

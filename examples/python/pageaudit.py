@@ -30,7 +30,7 @@ from collections.abc import Mapping, Sequence
 from dataclasses import dataclass, fields
 from typing import Any, SupportsIndex
 
-__version__ = "1.1.0"
+__version__ = "1.2.0"
 __all__ = ["Audit", "Finding", "Look", "Policy", "PolicyError", "Screen", "TextError", "Verdict"]
 __all__ += ["audit", "change", "check", "lint", "show"]
 

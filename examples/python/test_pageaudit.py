@@ -96,7 +96,7 @@ class Policies(unittest.TestCase):
                 Policy(20, number)
             with self.assertRaisesRegex(TypeError, r"^groups\[1\] has to be a whole number, not "):
                 Policy(20, 3, [7, number])
-        lists: list[Any] = ["7,9", b"79", None, 7, {7, 9}, iter([7])]
+        lists: list[Any] = ["7,9", b"79", bytearray(b"79"), memoryview(b"79"), None, 7, {7, 9}, iter([7])]
         for groups in lists:
             with self.assertRaisesRegex(
                 TypeError, f"^groups has to be a list of whole numbers, not {type(groups).__name__}$"
