@@ -116,6 +116,11 @@ pub next_off : (layer : Layer) (row : List Look) (r from next to : ℕ) (d : Loo
 next_off layer row r from next to d old new all e le lt differs en h =
     subst (λ (k : ℕ). new ++ markup (row_pieces layer r k (between row k (to + 1)) (drop (to + 1) row)) ≡ all) (sym e) (turn_off layer row r from to d old new all le lt differs en h)
 
+-- the ink of the run that the loop goes on with
+pub begin_ink : (layer : Layer) (row : List Look) (from next : ℕ) (d e : Look) (i k : Option Ink) → next ≡ from → from < length row → k ≡ i → i ≡ ink_of layer (get_or row from d) → k ≡ ink_of layer (get_or row next e)
+begin_ink layer row from next d e i k same lt kept is =
+    subst (λ (n : ℕ). k ≡ ink_of layer (get_or row n e)) (sym same) (kept ∙ (is ∙ ap (ink_of layer) (get_or_default row from d e lt)))
+
 -- a turn of the loop over the rows
 pub layer_more : (layer : Layer) (rows : List (List Look)) (i : ℕ) (d : List Look) (old new all : List ℕ) → i < length rows → new ≡ old ++ markup (row_pieces layer i 0 [] (get_or rows i d)) → old ++ markup (layer_pieces layer i (drop i rows)) ≡ all → new ++ markup (layer_pieces layer (i + 1) (drop (i + 1) rows)) ≡ all
 layer_more layer rows i d old new all lt e h =

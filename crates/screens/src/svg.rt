@@ -287,10 +287,13 @@ fn push_row(
     ensures { OnOk result (out.new.items ≡ out.old.items ++ markup (spec.row_pieces layer row 0 [] looks.now)) }
 {
     let mut from = 0;
+    let mut ink = layer.ink(&looks[0]);
     for (column, look) in looks.iter().enumerate() {
-        if !same_ink(layer.ink(&looks[from]), layer.ink(look)) {
+        let next = layer.ink(look);
+        if !same_ink(ink, next) {
             push_run(out, layer, row, from, &looks[from..column])?;
             from = column;
+            ink = next;
         }
     }
     push_run(out, layer, row, from, &looks[from..])
