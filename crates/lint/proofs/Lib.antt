@@ -5,6 +5,7 @@ pub mod Turns
 pub mod Ordering
 pub mod Judged
 pub mod Readings
+pub mod Written
 pub mod Errors
 pub mod Meanings
 pub mod Warnings

@@ -1,5 +1,6 @@
 -- Where a text writes its frames, line by line, and what is said of their faults.
 use Rattle.std.specs.Prelude.{◌≡◌, ℕ, Bool, false, List, Option, Some, None, codes, is_some, map}
+use Rattle.base_text.specs.Whole.{IsTextBase}
 use Rattle.page_ids.specs.Ids.{Id}
 use Rattle.frame_records.specs.Bases.{BaseView}
 use Rattle.finder.specs.declared.found.Discovered.{Discovered}
@@ -9,6 +10,7 @@ use Rattle.toml_places.specs.Places.{Mark, marks}
 use Rattle.toml_places.specs.Skips.{place_at}
 use Rattle.lint_words.specs.declared.fault_words.Judged.{Judged}
 use Rattle.lint_words.specs.FaultWords.{audit_fault_words}
+use Rattle.lint.specs.declared.lines.WrittenBase.{WrittenBase}
 use Rattle.lint.specs.declared.lines.WrittenFrame.{WrittenFrame}
 use Rattle.lint.specs.Lookups.{value_of}
 use Rattle.lint.specs.Tables.{key_spot, id_span}
@@ -33,6 +35,11 @@ frame_lines_of text tables = map (lined text (marks text)) tables
 -- the lines of the frames that a text lists
 abbrev pub frame_lines_in : List ℕ → List (Id × WrittenFrame)
 frame_lines_in text = frame_lines_of text (text_tables text)
+
+-- the base that a text means and the lines of its frames, or none if the text means no base
+abbrev pub IsWrittenBase : List ℕ → Option WrittenBase → Type 0
+IsWrittenBase text (Some w) = IsTextBase text w.base × (w.lines ≡ frame_lines_in text)
+IsWrittenBase text None = (base : BaseView) → IsTextBase text base → ⊥
 
 -- What is said of faults.
 

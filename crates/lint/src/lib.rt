@@ -10,7 +10,7 @@
 //!   [`spans_lie_in_the_text`].
 //! - [`Counts`], [`counted_text`]: how many there are. [`Ignored`], [`remove_warnings`]: the warnings that don't count, or aren't shown.
 //! - [`picture_places`], [`PicturePlace`]: where a text writes what frames show.
-//! - [`listed_lines`], [`frame_lines`], [`WrittenFrames`], [`WrittenFrame`]: where a text writes its frames, line by line.
+//! - [`written_base`], [`WrittenBase`], [`WrittenFrames`], [`WrittenFrame`]: a base, and where its text writes the frames, line by line.
 //!   [`fault_sentences`], [`Sentence`]: what is said of the faults of an audit.
 //! - [`lint_follows_base_read`], [`no_error_is_safe`], [`lint_warns_of_unreached`]: what the findings of a text mean.
 //! - Definitions: what is found (`Lint`), what may be wrong with frames (`Looks`, `Offers`, `Sights`, `AllLooks`), where a text
@@ -45,6 +45,6 @@ pub use judging::lint;
 pub use laws::{
     lint_follows_base_read, lint_warns_of_unreached, no_error_is_safe, spans_lie_in_the_text,
 };
-pub use lines::{WrittenFrame, WrittenFrames, frame_lines, listed_lines};
+pub use lines::{WrittenBase, WrittenFrame, WrittenFrames, written_base};
 pub use pictures::{PicturePlace, picture_places};
 pub use sentences::{Sentence, fault_sentences};

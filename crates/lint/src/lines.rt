@@ -5,12 +5,14 @@ ghost use Rattle.toml.specs.Parse.{parse_document};
 ghost use Rattle.toml_places.specs.Places.{Mark};
 ghost use Rattle.lint.specs.FrameLines as spec;
 ghost use Rattle.lint.specs.Lookups.{value_of};
-ghost use Rattle.lint.specs.Loops.{KnowsTables};
+ghost use Rattle.lint.specs.FrameLines.{IsWrittenBase};
+ghost use Rattle.lint.specs.Loops.{IsDraftOf, KnowsTables};
 
 use crate::judging::tables_of;
 use crate::lookup::Lookup;
 use crate::tables::TextTables;
-use base_text::{draft_of, tree};
+use base_text::{Draft, MOST_TEXT, draft_of, judge, tree};
+use frame_records::Base;
 use page_ids::FrameId;
 use std::alloc::{AllocError, Global};
 use std::marker::Model;
@@ -93,8 +95,8 @@ fn lined(
     Ok(pairs)
 }
 
-/// Where a text writes the frames of these tables; the index of a frame's table is from 0, as in a draft. The text is read once.
-pub fn frame_lines(
+// Where a text writes the frames of these tables; the index of a frame's table is from 0, as in a draft. The text is read once.
+fn frame_lines(
     alloc: Global,
     text: &str,
     tables: &[(FrameId, usize)],
@@ -109,17 +111,49 @@ pub fn frame_lines(
     WrittenFrames::of(alloc, list)
 }
 
-/// Where a base's text writes the frames that it lists; a text that isn't TOML lists none. It is read twice, once as TOML.
-pub fn listed_lines(alloc: Global, text: &[u8]) -> Result<WrittenFrames, AllocError>
-    ensures { IfOk result (λ lines. lines ≡ spec.frame_lines_in text.now) }
+/// A base, and where its text writes the frames.
+#[derive(Drop)]
+pub struct WrittenBase {
+    pub base: Base,
+    pub lines: WrittenFrames,
+}
+
+// The base of a draft, and where the text writes its frames.
+fn written_of(alloc: Global, text: &str, draft: Draft) -> Result<Option<WrittenBase>, AllocError>
+    requires { IsDraftOf text.now draft }
+    ensures { IfOk result (IsWrittenBase text.now) }
 {
+    let Draft {
+        entry,
+        outside,
+        frames,
+        faults,
+    } = draft;
+    let ([], Some(entry)) = (faults.as_slice(), entry) else {
+        return Ok(None);
+    };
+    let tables = tables_of(alloc, frames.as_slice())?;
+    match judge(alloc, entry, outside, frames)? {
+        Ok(base) => {
+            let lines = frame_lines(alloc, text, tables.as_slice())?;
+            Ok(Some(WrittenBase { base, lines }))
+        }
+        Err(_) => Ok(None),
+    }
+}
+
+/// The base that a text means, and where it writes the frames; none if `base_read` refuses the text. It is read twice, once as TOML.
+pub fn written_base(alloc: Global, text: &[u8]) -> Result<Option<WrittenBase>, AllocError>
+    ensures { IfOk result (IsWrittenBase text.now) }
+{
+    if text.len() > MOST_TEXT {
+        return Ok(None);
+    }
     let Ok(table) = tree(alloc, text)? else {
-        return WrittenFrames::of(alloc, Vec::new(alloc));
+        return Ok(None);
     };
-    let Ok(text) = str::from_utf8(text) else {
-        return WrittenFrames::of(alloc, Vec::new(alloc));
-    };
-    let draft = draft_of(alloc, table)?;
-    let tables = tables_of(alloc, draft.frames.as_slice())?;
-    frame_lines(alloc, text, tables.as_slice())
+    match str::from_utf8(text) {
+        Ok(text) => written_of(alloc, text, draft_of(alloc, table)?),
+        Err(_) => unreachable!(),
+    }
 }

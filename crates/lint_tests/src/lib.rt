@@ -34,3 +34,5 @@ mod value_hints;
 mod warnings;
 #[cfg(test)]
 mod whole_words;
+#[cfg(test)]
+mod written;

@@ -6,7 +6,7 @@ use Rattle.pageaudit.specs.Files.{IsUntouched, IsBaseOfFile, IsLinedOfFile, Devi
 use Rattle.pageaudit.specs.ChangeRun.{EditionFiles, IsEditionOf}
 use Rattle.std.specs.Prelude.{Result, MatchResult, ℕ, List, Ok, Err, ◌≡◌, false, ◌≤◌, ◌++◌, length, None, true, ◌+◌, Vec}
 use Rattle.lint.specs.FrameLines.{frame_lines_in}
-use Rattle.pageaudit.specs.declared.input.LinedBase.{LinedBase}
+use Rattle.lint.specs.declared.lines.WrittenBase.{WrittenBase}
 use Rattle.cert_table.specs.Table.{CertView}
 use Rattle.base_text.specs.declared.fault.BaseFault.{BaseFault}
 use Rattle.audit_report.specs.declared.run_fault.RunFault.{RunFault}
@@ -49,7 +49,7 @@ abbrev pub IsBaseRead : Device → Result BaseView (FileFault BaseFault) → Typ
 IsBaseRead d answer = MatchResult answer (IsBaseOfFile d) (IsBaseFileFault d)
 
 -- the same with where its text writes the frames
-abbrev pub IsLinedRead : Device → Result LinedBase (FileFault BaseFault) → Type 0
+abbrev pub IsLinedRead : Device → Result WrittenBase (FileFault BaseFault) → Type 0
 IsLinedRead d answer = MatchResult answer (λ l. IsLinedOfFile d l.base l.lines) (IsBaseFileFault d)
 
 -- the certificate of a file, or why it gives none
@@ -63,7 +63,7 @@ IsBaseAnswer text (Err (file.Text fault)) = IsBaseRefused text fault
 IsBaseAnswer text (Err file.Broken) = ⊥
 IsBaseAnswer text (Err file.Memory) = Unit {0}
 
-abbrev pub IsLinedAnswer : List ℕ → Result LinedBase (FileFault BaseFault) → Type 0
+abbrev pub IsLinedAnswer : List ℕ → Result WrittenBase (FileFault BaseFault) → Type 0
 IsLinedAnswer text (Ok l) = IsTextBase text l.base × (l.lines ≡ frame_lines_in text)
 IsLinedAnswer text (Err (file.Text fault)) = IsBaseRefused text fault
 IsLinedAnswer text (Err file.Broken) = ⊥

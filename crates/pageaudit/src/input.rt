@@ -11,7 +11,7 @@ use base_text::{BaseCause, BaseFault, MOST_TEXT, base_read};
 use cert_table::Certificate;
 use cert_text::{CertReader, ReadFault};
 use frame_records::Base;
-use lint::{WrittenFrames, listed_lines};
+use lint::{WrittenBase, written_base};
 use std::alloc::Global;
 
 // The number of bytes of a certificate that one read asks for.
@@ -48,23 +48,16 @@ pub fn read_base<S: Source>(alloc: Global, source: &mut S) -> Result<Base, FileF
     }
 }
 
-// A base, and where its text writes the frames.
-#[derive(Drop)]
-pub struct LinedBase {
-    pub base: Base,
-    pub lines: WrittenFrames,
-}
-
-// The base of a text, with its lines.
-fn lined_of(alloc: Global, text: &[u8]) -> Result<LinedBase, FileFault<BaseFault>>
+// The base of a text, and where it writes the frames. A text that is refused is read once more, for its first fault.
+fn written_of(alloc: Global, text: &[u8]) -> Result<WrittenBase, FileFault<BaseFault>>
     ensures { IsLinedAnswer text.now result }
 {
-    let base = match base_of(alloc, text) {
-        Ok(base) => base,
-        Err(fault) => return Err(fault),
-    };
-    match listed_lines(alloc, text) {
-        Ok(lines) => Ok(LinedBase { base, lines }),
+    match written_base(alloc, text) {
+        Ok(Some(written)) => Ok(written),
+        Ok(None) => match base_of(alloc, text) {
+            Err(fault) => Err(fault),
+            Ok(_) => unreachable!(),
+        },
         Err(_) => Err(FileFault::Memory),
     }
 }
@@ -73,7 +66,7 @@ fn lined_of(alloc: Global, text: &[u8]) -> Result<LinedBase, FileFault<BaseFault
 pub fn read_lined<S: Source>(
     alloc: Global,
     source: &mut S,
-) -> Result<LinedBase, FileFault<BaseFault>>
+) -> Result<WrittenBase, FileFault<BaseFault>>
     requires { (S.seen source.old).failed ≡ false }
     ensures { IsLinedRead (device S.seen source.old source.new) result }
 {
@@ -82,7 +75,7 @@ pub fn read_lined<S: Source>(
         Err(SourceFault::Broken) => return Err(FileFault::Broken),
         Err(SourceFault::Memory) => return Err(FileFault::Memory),
     };
-    lined_of(alloc, text.as_slice())
+    written_of(alloc, text.as_slice())
 }
 
 // Reads once, at most `most` bytes, and feeds them to the certificate's reader as one piece. Returns their number, 0 at

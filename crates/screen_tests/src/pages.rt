@@ -1,9 +1,8 @@
 use base_pages::{BaseSource, PagesFault, PagesStatus, write_pages};
-use base_text::base_read;
 use checker::Policy;
 use finder::View;
 use frame_records::{Groups, Pence};
-use lint::listed_lines;
+use lint::{WrittenBase, written_base};
 use page_ids::PageNo;
 use std::alloc::Global;
 use std::rt::HostRuntime;
@@ -43,14 +42,17 @@ fn policy() -> Result<Policy, Fail> {
     })
 }
 
+fn written(alloc: Global, base: &str) -> Result<WrittenBase, Fail> {
+    Ok(written_base(alloc, base.as_bytes())?.ok_or("base")?)
+}
+
 // The file of a view of a base.
 fn file(alloc: Global, base: &str, view: &View, name: &str) -> Result<String, Fail> {
-    let lines = listed_lines(alloc, base.as_bytes())?;
+    let WrittenBase { base, lines } = written(alloc, base)?;
     let source = BaseSource {
         name,
         lines: &lines,
     };
-    let base = base_read(alloc, base.as_bytes())?;
     let mut sink = FakeSink::of(alloc, 1000);
     let status = write_pages(alloc, &source, &base, &policy()?, view, &mut sink)?;
     same(status, PagesStatus::Written)?;
@@ -169,12 +171,12 @@ fn a_part_leaves_out_what_is_elsewhere(rt: HostRuntime) -> Result<(), Fail> {
 #[test]
 fn a_page_that_the_base_lacks_has_no_file(rt: HostRuntime) -> Result<(), Fail> {
     let alloc = rt.alloc();
-    let base = base_read(alloc, BASE.as_bytes())?;
+    let WrittenBase { base, lines } = written(alloc, BASE)?;
     let page = PageNo::new(5).ok_or("page")?;
     let mut sink = FakeSink::of(alloc, 1000);
     let source = BaseSource {
         name: "a",
-        lines: &listed_lines(alloc, BASE.as_bytes())?,
+        lines: &lines,
     };
     let status = write_pages(
         alloc,
@@ -219,11 +221,11 @@ fn an_entry_frame_that_is_missing_is_reported_before_the_sections(
 #[test]
 fn a_sink_that_fails_has_taken_the_front(rt: HostRuntime) -> Result<(), Fail> {
     let alloc = rt.alloc();
-    let base = base_read(alloc, BASE.as_bytes())?;
+    let WrittenBase { base, lines } = written(alloc, BASE)?;
     let mut sink = FakeSink::full(alloc, 1000, 12_345);
     let source = BaseSource {
         name: "a.toml",
-        lines: &listed_lines(alloc, BASE.as_bytes())?,
+        lines: &lines,
     };
     let run = write_pages(alloc, &source, &base, &policy()?, &View::Whole, &mut sink);
     same(run, Err(PagesFault::Write(12_345)))?;
