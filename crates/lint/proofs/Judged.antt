@@ -11,7 +11,7 @@ use Rattle.base_text.specs.declared.detail.TextFault.{TextFault}
 use Rattle.base_text.specs.declared.whole_fault.WholeFault.{WholeFault}
 use Rattle.base_text.specs.declared.listed.Listed.{Listed}
 use Rattle.base_text.specs.Drafts.{DraftView, framed, draft_of, text_faults, BeginAlike}
-use Rattle.base_text.specs.Whole.{PartsView, tree_of, listed_parts}
+use Rattle.base_text.specs.Whole.{PartsView, tree_of, listed_parts, IsTextBase}
 use Rattle.base_text.specs.WholeFaults.{AreWholeFaults}
 use Rattle.frame_records.specs.Bases.{BaseView, IsBaseOf}
 use Rattle.toml_places.specs.Places.{marks}
@@ -52,15 +52,27 @@ each_subject text [] [] = refl
 each_subject text [] (w ∷ ws) = ap (λ fs. whole_finding text (marks text) w ∷ fs) (each_subject text [] ws)
 each_subject text (t ∷ ts) whole = ap (λ fs. text_finding text (marks text) t ∷ fs) (each_subject text ts whole)
 
-module _ (text : List ℕ) (policy : Policy) (findings : List FindingView) where
-  parts : (ms : Members) (e : ℕ) → nat_lt MOST_TEXT (length text) ≡ false → tree_of text ≡ Some ms → (draft_of ms).faults ≡ [] → (draft_of ms).entry ≡ Some e
-      → listed_parts text ≡ Ok (record { entry = e; outside = (draft_of ms).outside; frames = map framed (draft_of ms).frames })
-  parts ms e short tree sound entry = rw (short, tree, none (draft_of ms).faults (text_faults ms) (begin_alike ms) sound, entry) refl where
-    none : (listed all : List TextFault) → BeginAlike listed all → listed ≡ [] → all ≡ []
-    none [] [] alike e = refl
-    none [] (u ∷ us) alike e = absurd alike
-    none (t ∷ ts) all alike e = absurd cc
+parts : (text : List ℕ) (ms : Members) (e : ℕ) → nat_lt MOST_TEXT (length text) ≡ false → tree_of text ≡ Some ms → (draft_of ms).faults ≡ [] → (draft_of ms).entry ≡ Some e
+    → listed_parts text ≡ Ok (record { entry = e; outside = (draft_of ms).outside; frames = map framed (draft_of ms).frames })
+parts text ms e short tree sound entry = rw (short, tree, none (draft_of ms).faults (text_faults ms) (begin_alike ms) sound, entry) refl where
+  none : (listed all : List TextFault) → BeginAlike listed all → listed ≡ [] → all ≡ []
+  none [] [] alike e = refl
+  none [] (u ∷ us) alike e = absurd alike
+  none (t ∷ ts) all alike e = absurd cc
 
+-- the base of a draft without a fault is that of the text
+pub text_base : (text : List ℕ) (entry : ℕ) (outside : List ℕ) (frames : List Listed) → IsDraftOf text (sound_draft entry outside frames)
+    → (base : BaseView) → IsBaseOf entry outside (map framed frames) base → IsTextBase text base
+text_base text entry outside frames is base is_base =
+    let d : DraftView = draft_of is.0 in
+    let same : sound_draft entry outside frames ≡ d = is.3 in
+    let p : PartsView = record { entry = entry; outside = d.outside; frames = map framed d.frames } in (
+      p,
+      parts text is.0 entry is.1 is.2 (sym (ap (λ (v : DraftView). v.faults) same)) (sym (ap (λ (v : DraftView). v.entry) same)),
+      subst (λ (v : DraftView). IsBaseOf entry v.outside (map framed v.frames) base) same is_base,
+    )
+
+module _ (text : List ℕ) (policy : Policy) (findings : List FindingView) where
   -- a draft without a fault, whose base is audited
   module _ (entry : ℕ) (outside : List ℕ) (frames : List Listed) (is : IsDraftOf text (sound_draft entry outside frames)) where
     abbrev ms : Members
@@ -75,13 +87,11 @@ module _ (text : List ℕ) (policy : Policy) (findings : List FindingView) where
     pub of_base : (base : BaseView) → IsBaseOf entry outside (map framed frames) base → AreWholeFaults outside frames []
         → AreAuditFindings text (marks text) (tables_of frames) base policy findings → IsJudged text policy findings
     of_base base is_base are audited =
-        let p : PartsView = record { entry = entry; outside = d.outside; frames = map framed d.frames } in
-        let base_is = subst (λ (v : DraftView). IsBaseOf entry v.outside (map framed v.frames) base) same is_base in
         let whole = subst (λ (v : DraftView). AreWholeFaults v.outside v.frames []) same are in
         let none = subst (λ (v : DraftView). [] ≡ faulty v.faults []) same refl in
         let known = subst (λ t. AreAuditFindings text (marks text) (tree_tables t) base policy findings) (sym is.2)
         (subst (λ (v : DraftView). AreAuditFindings text (marks text) (tables_of v.frames) base policy findings) same audited) in
-        ([], in_tree text (Some ms) [] is.1 is.2 ([], whole, none), (base, (p, parts ms entry is.1 is.2 (sym (ap (λ (v : DraftView). v.faults) same)) (sym (ap (λ (v : DraftView). v.entry) same)), base_is), known))
+        ([], in_tree text (Some ms) [] is.1 is.2 ([], whole, none), (base, text_base text entry outside frames is base is_base, known))
 
   -- a draft of which something is wrong
   pub of_faults : (d : DraftView) (whole : List WholeFault) → IsDraftOf text d → AreWholeFaults d.outside d.frames whole → (faulty d.faults whole ≡ [] → ⊥)

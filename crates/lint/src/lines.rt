@@ -6,14 +6,14 @@ ghost use Rattle.toml_places.specs.Places.{Mark};
 ghost use Rattle.lint.specs.FrameLines as spec;
 ghost use Rattle.lint.specs.Lookups.{value_of};
 ghost use Rattle.lint.specs.FrameLines.{IsWrittenBase};
-ghost use Rattle.lint.specs.Loops.{IsDraftOf, KnowsTables};
+ghost use Rattle.lint.specs.Loops.{IsDraftOf, KnowsTables, sound_draft};
 
 use crate::judging::tables_of;
 use crate::lookup::Lookup;
 use crate::tables::TextTables;
-use base_text::{Draft, MOST_TEXT, draft_of, judge, tree};
+use base_text::{Draft, Listed, MOST_TEXT, draft_of, judge, tree};
 use frame_records::Base;
-use page_ids::FrameId;
+use page_ids::{FrameId, PageNo};
 use std::alloc::{AllocError, Global};
 use std::marker::Model;
 use toml_places::{Places, TextLines};
@@ -118,6 +118,27 @@ pub struct WrittenBase {
     pub lines: WrittenFrames,
 }
 
+// The base of a draft without a fault, and where the text writes its frames.
+fn sound_base(
+    alloc: Global,
+    text: &str,
+    entry: PageNo,
+    outside: Vec<PageNo>,
+    frames: Vec<Listed>,
+) -> Result<Option<WrittenBase>, AllocError>
+    requires { IsDraftOf text.now (sound_draft entry outside.items frames.items) }
+    ensures { IfOk result (IsWrittenBase text.now) }
+{
+    let tables = tables_of(alloc, frames.as_slice())?;
+    match judge(alloc, entry, outside, frames)? {
+        Ok(base) => {
+            let lines = frame_lines(alloc, text, tables.as_slice())?;
+            Ok(Some(WrittenBase { base, lines }))
+        }
+        Err(_) => Ok(None),
+    }
+}
+
 // The base of a draft, and where the text writes its frames.
 fn written_of(alloc: Global, text: &str, draft: Draft) -> Result<Option<WrittenBase>, AllocError>
     requires { IsDraftOf text.now draft }
@@ -129,16 +150,9 @@ fn written_of(alloc: Global, text: &str, draft: Draft) -> Result<Option<WrittenB
         frames,
         faults,
     } = draft;
-    let ([], Some(entry)) = (faults.as_slice(), entry) else {
-        return Ok(None);
-    };
-    let tables = tables_of(alloc, frames.as_slice())?;
-    match judge(alloc, entry, outside, frames)? {
-        Ok(base) => {
-            let lines = frame_lines(alloc, text, tables.as_slice())?;
-            Ok(Some(WrittenBase { base, lines }))
-        }
-        Err(_) => Ok(None),
+    match (faults.as_slice(), entry) {
+        ([], Some(entry)) => sound_base(alloc, text, entry, outside, frames),
+        _ => Ok(None),
     }
 }
 
