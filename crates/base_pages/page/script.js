@@ -264,6 +264,9 @@
     }
   }
 
+  // Without frames there is nothing to show or to press.
+  if (!Frame.first()) return;
+
   let session = null;
   let timer = 0;
   let view = "caller";
@@ -317,7 +320,6 @@
     }
     if (view === "frames") arrange();
     if (view === "faults") list();
-    if (!session) return;
     drawFrame();
     drawReply();
     put("sum", `${session.sum}p`);
@@ -415,7 +417,6 @@
   };
 
   const typed = (keys) => {
-    if (!session) return;
     const { at } = session;
     for (const key of keys) session.type(key);
     draw();
@@ -436,7 +437,7 @@
     if (next === view) return;
     view = next;
     draw();
-    if (session) remember(true);
+    remember(true);
     scrollTo(0, 0);
   };
 
@@ -552,7 +553,7 @@
   const escape = () => {
     stop();
     leaveFull();
-    if (session) session.command = "";
+    session.command = "";
     if (view === "caller") draw();
     else turnTo("caller");
   };
@@ -594,7 +595,7 @@
   };
 
   document.addEventListener("keydown", (event) => {
-    if (event.ctrlKey || event.metaKey || event.altKey || !session) return;
+    if (event.ctrlKey || event.metaKey || event.altKey) return;
     const { key, target } = event;
     const act = { caller: inCaller, frames: inFrames }[view];
     if (key === "Escape") escape();
@@ -641,7 +642,6 @@
   };
 
   addEventListener("popstate", (event) => {
-    if (!session) return;
     stop();
     visit(event.state);
     draw();
@@ -651,13 +651,11 @@
   const faults = document.querySelectorAll("ul.faults li").length;
   root.classList.add("js");
   put("count", faults ? ` ${faults}` : "");
-  if (Frame.first()) {
-    const unopened = document.querySelector("body > .faults li");
-    const named = Frame.of(location.hash.slice(1));
-    visit(history.state);
-    if (unopened && !named) session.say(unopened.textContent, "bad");
-    put("again", `Back to ${Frame.start().id}`);
-    remember(false);
-  }
+  const unopened = document.querySelector("body > .faults li");
+  const named = Frame.of(location.hash.slice(1));
+  visit(history.state);
+  if (unopened && !named) session.say(unopened.textContent, "bad");
+  put("again", `Back to ${Frame.start().id}`);
+  remember(false);
   draw();
 })();
