@@ -158,6 +158,15 @@ def is_of(name: str, path: str) -> bool:
     return f"::{name}".endswith(f"::{path}")
 
 
+def answers_of(edit: Edit, line: str) -> list[tuple[str, str]]:
+    """The answer that a line names as one that no longer fits, if it is that of a function of the edit."""
+    found = ANSWER.match(line)
+    if not found or SEARCH.match(found[3]):
+        return []
+    name = found[1].removeprefix("proofs/").removesuffix("/Answers.antt").replace("/", "::")
+    return [(found[1], found[2])] if any(is_of(name, path) for path in edit.paths()) else []
+
+
 def of_paths(printed: str, paths: Collection[str]) -> list[Said]:
     """What a check that printed this says of each function of these paths, or of each."""
     return [said for name, said in said_of(printed).items() if not paths or any(is_of(name, path) for path in paths)]
@@ -193,6 +202,10 @@ def fault_of(crate: Any, texts: Mapping[Path, str], paths: Collection[str], said
 
 # Edits
 
+Part = tuple[list[Edit], dict[Path, str] | None]
+# What rt said of edits, by their names.
+Lines = Mapping[str, str]
+
 
 def batches(tried: Iterable[Edit]) -> Iterator[tuple[list[Edit], dict[Path, str]]]:
     """Edits that can be tried together, with their texts: no function is changed twice, no name of one is the end of
@@ -215,15 +228,16 @@ def batches(tried: Iterable[Edit]) -> Iterator[tuple[list[Edit], dict[Path, str]
         waiting = later
 
 
-def said_of_batch(crate: Any, batch: Iterable[Edit], texts: Mapping[Path, str]) -> dict[str, list[Said]]:
-    """What is said of each edit of a batch, by its name: first of all, and then, if only answers don't fit, with these
-    answers as facts.
+def said_of_batch(crate: Any, batch: list[Edit], texts: Mapping[Path, str], lines: Lines) -> dict[str, list[Said]]:
+    """What is said of each edit of a batch, by its name: first of all, with what is known of answers that don't fit,
+    and then, if only others don't, with these as facts too.
     """
     paths = {edit.name: edit.paths() for edit in batch}
-    printed = check(crate, texts, sum(paths.values(), []))
+    known = [answer for edit in batch for answer in answers_of(edit, lines.get(edit.name, ""))]
+    printed = check(crate, with_facts(crate, texts, known), sum(paths.values(), []))
     said = {name: of_paths(printed, of) for name, of in paths.items()}
     if again := [name for name in paths if lacks_goals(said[name])]:
-        answers = [answer for name in again for one in said[name] for answer in one.answers]
+        answers = known + [answer for name in again for one in said[name] for answer in one.answers]
         printed = check(crate, with_facts(crate, texts, answers), sum((paths[name] for name in again), []))
         said |= {name: of_paths(printed, paths[name]) for name in again}
     return said
@@ -237,9 +251,6 @@ def alone(crate: Any, edit: Edit) -> str | None:
     return fault_of(crate, texts, paths, of_paths(check(crate, texts, paths), paths))
 
 
-Part = tuple[list[Edit], dict[Path, str] | None]
-
-
 def parts(tried: Iterable[Edit]) -> list[Part]:
     """Edits as they are tried: those of other places than functions alone, which takes longest, and then batches with
     their texts.
@@ -249,14 +260,14 @@ def parts(tried: Iterable[Edit]) -> list[Part]:
     return single + list(batches(edit for edit in every if edit.is_of_functions()))
 
 
-def judged_part(crate: Any, part: Part) -> list[tuple[Edit, str | None]]:
+def judged_part(crate: Any, part: Part, lines: Lines) -> list[tuple[Edit, str | None]]:
     """Each edit of a part, and why it isn't refused for its meaning, or None. What a check of a batch doesn't show is
     tried alone.
     """
     batch, texts = part
     if texts is None:
         return [(edit, alone(crate, edit)) for edit in batch]
-    said = said_of_batch(crate, batch, texts)
+    said = said_of_batch(crate, batch, texts, lines)
     whys = {edit.name: verdict(said[edit.name]) for edit in batch}
     return [(edit, whys[edit.name] and alone(crate, edit)) for edit in batch]
 
@@ -264,4 +275,4 @@ def judged_part(crate: Any, part: Part) -> list[tuple[Edit, str | None]]:
 def judged(crate: Any, tried: Iterable[Edit]) -> Iterator[tuple[Edit, str | None]]:
     """Each edit, and why it isn't refused for its meaning, or None."""
     for part in parts(tried):
-        yield from judged_part(crate, part)
+        yield from judged_part(crate, part, {})

@@ -103,17 +103,8 @@ pub fn make_candidate(
 ) -> Result<Candidate, CandidateFault>
     ensures { IfOk result (IsCandidate text.now policy) }
 {
-    let base = match base_in(alloc, text) {
-        Ok(base) => base,
-        Err(fault) => return Err(fault),
-    };
-    let cert_text = match audited(alloc, &base, &policy) {
-        Ok(text) => text,
-        Err(fault) => return Err(fault),
-    };
-    let cert = match cert_in(alloc, cert_text.as_slice()) {
-        Ok(cert) => cert,
-        Err(fault) => return Err(fault),
-    };
+    let base = base_in(alloc, text)?;
+    let cert_text = audited(alloc, &base, &policy)?;
+    let cert = cert_in(alloc, cert_text.as_slice())?;
     checked(base, cert, cert_text, policy)
 }

@@ -54,19 +54,16 @@ fn number_after<F: EditionFolder>(
 {
     let mut number = to;
     while number > from {
-        match read_follows(alloc, folder, number) {
-            Ok(Some(before)) => {
-                if before == from {
-                    return Ok(number);
-                }
-                if before >= number {
-                    return Err(ReachFault::OtherBeginning);
-                }
-                number = before;
-            }
-            Ok(None) => return Err(ReachFault::OtherBeginning),
-            Err(fault) => return Err(fault),
+        let Some(before) = read_follows(alloc, folder, number)? else {
+            return Err(ReachFault::OtherBeginning);
+        };
+        if before == from {
+            return Ok(number);
         }
+        if before >= number {
+            return Err(ReachFault::OtherBeginning);
+        }
+        number = before;
     }
     Err(ReachFault::OtherBeginning)
 }
@@ -97,10 +94,7 @@ fn edition_after<F: EditionFolder>(
     ensures next { IfOk result (IsNextEdition (F.seen folder.old) old.now) }
     ensures within { IfOk result (λ new. (old.now.number < new.number) × (new.number ≤ to)) }
 {
-    let number = match number_after(alloc, folder, old.number, to) {
-        Ok(number) => number,
-        Err(fault) => return Err(fault),
-    };
+    let number = number_after(alloc, folder, old.number, to)?;
     match read_edition(alloc, folder, number) {
         Ok(new) => judged(old, new),
         Err(_) => Err(ReachFault::Unread),
@@ -121,15 +115,9 @@ pub fn reach_edition<F: EditionFolder>(
     ensures reached { IfOk result (IsEditionReached (F.seen folder.old) served.now) }
     ensures number { IfOk result (λ new. new.number ≡ number) }
 {
-    let mut here = match edition_after(alloc, folder, served, number) {
-        Ok(next) => next,
-        Err(fault) => return Err(fault),
-    };
+    let mut here = edition_after(alloc, folder, served, number)?;
     while here.number < number {
-        here = match edition_after(alloc, folder, &here, number) {
-            Ok(next) => next,
-            Err(fault) => return Err(fault),
-        };
+        here = edition_after(alloc, folder, &here, number)?;
     }
     Ok(here)
 }

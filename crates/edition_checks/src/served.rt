@@ -97,17 +97,13 @@ fn read_base<F: EditionFolder>(
         Some read.0.items)) }
     ensures is { IfOk result (λ read. IsTextBase read.0.items read.1) }
 {
-    let text = match read_text(alloc, folder, number, EditionFile::Base) {
-        Ok(text) => text,
-        Err(fault) => return Err(fault),
-    };
-    match base_in(alloc, text.as_slice()) {
-        Ok(base) => Ok((text, base)),
-        Err(fault) => Err(fault),
-    }
+    let text = read_text(alloc, folder, number, EditionFile::Base)?;
+    let base = base_in(alloc, text.as_slice())?;
+    Ok((text, base))
 }
 
 // The certificate of an edition, without its text.
+#[tactic(auto, using(crate::proofs::FolderReads::cert_there))]
 fn read_cert<F: EditionFolder>(
     alloc: Global,
     folder: &mut F,
@@ -117,14 +113,8 @@ fn read_cert<F: EditionFolder>(
     ensures there { IfOk result (λ cert. IfHeld (F.seen folder.old) (λ f. IsCertOf f number cert)) }
     ensures is { IfOk result HasCertText }
 {
-    let text = match read_text(alloc, folder, number, EditionFile::Cert) {
-        Ok(text) => text,
-        Err(fault) => return Err(fault),
-    };
-    match cert_in(alloc, text.as_slice()) {
-        Ok(cert) => Ok(cert),
-        Err(fault) => Err(fault),
-    }
+    let text = read_text(alloc, folder, number, EditionFile::Cert)?;
+    cert_in(alloc, text.as_slice())
 }
 
 // The policy of an edition, with its text.
@@ -138,14 +128,9 @@ fn read_policy<F: EditionFolder>(
         Some read.0.items)) }
     ensures is { IfOk result (λ read. policy_in read.0.items ≡ Ok read.1) }
 {
-    let text = match read_text(alloc, folder, number, EditionFile::Policy) {
-        Ok(text) => text,
-        Err(fault) => return Err(fault),
-    };
-    match policy_of(alloc, text.as_slice()) {
-        Ok(policy) => Ok((text, policy)),
-        Err(fault) => Err(fault),
-    }
+    let text = read_text(alloc, folder, number, EditionFile::Policy)?;
+    let policy = policy_of(alloc, text.as_slice())?;
+    Ok((text, policy))
 }
 
 /// Reads an edition of a folder. Without the folder's lock others may publish meanwhile; an edition that is there stays as it is.
@@ -161,18 +146,9 @@ pub fn read_edition<F: EditionFolder>(
     ensures served { IfOk result (λ s. IfHeld (F.seen folder.old) (λ f. IsServed f s)) }
     ensures number { IfOk result (λ s. s.number ≡ number) }
 {
-    let (base_text, base) = match read_base(alloc, folder, number) {
-        Ok(read) => read,
-        Err(fault) => return Err(fault),
-    };
-    let cert = match read_cert(alloc, folder, number) {
-        Ok(cert) => cert,
-        Err(fault) => return Err(fault),
-    };
-    let (policy_text, policy) = match read_policy(alloc, folder, number) {
-        Ok(read) => read,
-        Err(fault) => return Err(fault),
-    };
+    let (base_text, base) = read_base(alloc, folder, number)?;
+    let cert = read_cert(alloc, folder, number)?;
+    let (policy_text, policy) = read_policy(alloc, folder, number)?;
     Ok(Served {
         number,
         base_text,

@@ -38,10 +38,9 @@ fn place_fault<F: EditionFolder>(
     ensures within { IfOk result (λ o. o ≡ None →
         IsWithinNumbers numbers.now current edition.now.served.number edition.now.follows) }
 {
-    match follows_fault(alloc, folder, numbers, edition, before) {
-        Ok(None) => Ok(passed_fault(numbers, current, edition)),
-        Ok(Some(fault)) => Ok(Some(fault)),
-        Err(fault) => Err(fault),
+    match follows_fault(alloc, folder, numbers, edition, before)? {
+        None => Ok(passed_fault(numbers, current, edition)),
+        Some(fault) => Ok(Some(fault)),
     }
 }
 
@@ -60,10 +59,9 @@ fn edition_fault<F: EditionFolder>(
     ensures right { IfOk result (λ o. o ≡ None → IfSome (F.seen folder.old).state
         (λ f. IsJudgedRight f numbers.now current edition.now)) }
 {
-    match own_fault(alloc, folder, edition) {
-        Ok(None) => place_fault(alloc, folder, numbers, current, edition, before),
-        Ok(Some(fault)) => Ok(Some(fault)),
-        Err(fault) => Err(fault),
+    match own_fault(alloc, folder, edition)? {
+        None => place_fault(alloc, folder, numbers, current, edition, before),
+        Some(fault) => Ok(Some(fault)),
     }
 }
 
@@ -83,10 +81,9 @@ fn judge_kept<F: EditionFolder>(
     ensures right { IfOk result (λ j. IfRight j (IsRightNow (F.seen folder.old) numbers.now current
         edition.served.number)) }
 {
-    match edition_fault(alloc, folder, numbers, current, &edition, before) {
-        Ok(None) => Ok(JudgedEdition::Right(edition)),
-        Ok(Some(fault)) => Ok(JudgedEdition::Wrong(fault)),
-        Err(fault) => Err(fault),
+    match edition_fault(alloc, folder, numbers, current, &edition, before)? {
+        None => Ok(JudgedEdition::Right(edition)),
+        Some(fault) => Ok(JudgedEdition::Wrong(fault)),
     }
 }
 

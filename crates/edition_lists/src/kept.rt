@@ -60,10 +60,8 @@ fn read_follows<F: EditionFolder>(
     ensures unchanged { IsUnchanged (F.seen folder.old) (F.seen folder.new) }
     ensures says { IfOk result (λ follows. IfSome (F.seen folder.old).state (λ f. SaysFollows f number follows)) }
 {
-    match read_text(alloc, folder, number, EditionFile::Follows) {
-        Ok(text) => follows_of(text.as_slice()),
-        Err(fault) => Err(fault),
-    }
+    let text = read_text(alloc, folder, number, EditionFile::Follows)?;
+    follows_of(text.as_slice())
 }
 
 /// Reads an edition of a folder, of which the lock is held: first the base, the certificate and the policy, then
@@ -78,20 +76,12 @@ pub fn read_kept<F: EditionFolder>(
     ensures kept { IfOk result (λ e. IfSome (F.seen folder.old).state (λ f. IsKeptEdition f e)) }
     ensures number { IfOk result (λ e. e.served.number ≡ number) }
 {
-    let served = match read_served(alloc, folder, number) {
-        Ok(served) => served,
-        Err(fault) => return Err(fault),
-    };
-    let follows = match read_follows(alloc, folder, number) {
-        Ok(follows) => follows,
-        Err(fault) => return Err(fault),
-    };
-    match read_text(alloc, folder, number, EditionFile::Sums) {
-        Ok(sums) => Ok(KeptEdition {
-            served,
-            follows,
-            sums,
-        }),
-        Err(fault) => Err(fault),
-    }
+    let served = read_served(alloc, folder, number)?;
+    let follows = read_follows(alloc, folder, number)?;
+    let sums = read_text(alloc, folder, number, EditionFile::Sums)?;
+    Ok(KeptEdition {
+        served,
+        follows,
+        sums,
+    })
 }

@@ -51,10 +51,8 @@ fn read_followed<S: EditionStore>(
 {
     match edition.follows {
         Some(number) if numbers.binary_search(&number).is_ok() => {
-            match read_one(alloc, store, number) {
-                Ok(old) => Ok(Some(old)),
-                Err(fault) => Err(fault),
-            }
+            let old = read_one(alloc, store, number)?;
+            Ok(Some(old))
         }
         _ => Ok(None),
     }
@@ -99,10 +97,8 @@ fn row_after<S: EditionStore>(
     if is_next(before, edition) {
         return row_beside(alloc, numbers, served, edition, before);
     }
-    match read_followed(alloc, store, numbers, edition) {
-        Ok(old) => row_beside(alloc, numbers, served, edition, &old),
-        Err(fault) => Err(fault),
-    }
+    let old = read_followed(alloc, store, numbers, edition)?;
+    row_beside(alloc, numbers, served, edition, &old)
 }
 
 // Reads an edition, and adds its row.
@@ -121,14 +117,8 @@ fn list_next<S: EditionStore>(
     ensures number { IfOk result (λ e. e.served.number ≡ number) }
     ensures row { IfOk result (λ e. AddsRow numbers.now served e rows.old.items rows.new.items) }
 {
-    let edition = match read_one(alloc, store, number) {
-        Ok(edition) => edition,
-        Err(fault) => return Err(fault),
-    };
-    let row = match row_after(alloc, store, numbers, served, &edition, before) {
-        Ok(row) => row,
-        Err(fault) => return Err(fault),
-    };
+    let edition = read_one(alloc, store, number)?;
+    let row = row_after(alloc, store, numbers, served, &edition, before)?;
     match rows.push(row) {
         Ok(()) => Ok(edition),
         Err(_) => Err(FolderFault::Memory),
@@ -180,14 +170,9 @@ fn list_by<S: EditionStore>(
     ensures unchanged { IsUnchanged (S.seen store.old) (S.seen store.new) }
     ensures rows { IfOk result (λ rows. IfSome (S.seen store.old).state (λ f. AreListedIn f numbers.now rows.items)) }
 {
-    let current = match read_current(alloc, store, numbers) {
-        Ok(current) => current,
-        Err(fault) => return Err(fault),
-    };
-    match named_number(current, numbers) {
-        Ok(served) => list_all(alloc, store, numbers, served),
-        Err(fault) => Err(fault),
-    }
+    let current = read_current(alloc, store, numbers)?;
+    let served = named_number(current, numbers)?;
+    list_all(alloc, store, numbers, served)
 }
 
 fn said_of(alloc: Global, numbers: &[u32], rows: &[EditionRow]) -> Result<Said, FolderFault>
@@ -213,10 +198,8 @@ fn listed_by<S: EditionStore>(
     ensures unchanged { IsUnchanged (S.seen store.old) (S.seen store.new) }
     ensures said { IfOk result (λ said. IsEditionsText (S.seen store.old) said.text.items said.status) }
 {
-    match list_by(alloc, store, numbers) {
-        Ok(rows) => said_of(alloc, numbers, rows.as_slice()),
-        Err(fault) => Err(fault),
-    }
+    let rows = list_by(alloc, store, numbers)?;
+    said_of(alloc, numbers, rows.as_slice())
 }
 
 // Lists a folder; what is to be printed of it.
@@ -225,10 +208,8 @@ fn listed<S: EditionStore>(alloc: Global, store: &mut S) -> Result<Said, FolderF
     ensures unchanged { IsUnchanged (S.seen store.old) (S.seen store.new) }
     ensures said { IfOk result (λ said. IsEditionsText (S.seen store.old) said.text.items said.status) }
 {
-    match sorted_numbers(alloc, store) {
-        Ok(numbers) => listed_by(alloc, store, numbers.as_slice()),
-        Err(fault) => Err(fault),
-    }
+    let numbers = sorted_numbers(alloc, store)?;
+    listed_by(alloc, store, numbers.as_slice())
 }
 
 /// Lists the editions of a folder, a line for each, in the order of their numbers.

@@ -126,9 +126,8 @@ pub fn own_fault<F: EditionFolder>(
     ensures unchanged { IsUnchanged (F.seen folder.old) (F.seen folder.new) }
     ensures right { IfOk result (λ o. o ≡ None → IfSome (F.seen folder.old).state (λ f. IsSealed f edition.now)) }
 {
-    match wrong_sum(alloc, folder, edition) {
-        Ok(None) => Ok(refused(edition)),
-        Ok(Some(file)) => Ok(Some(EditionFlaw::Sum(file))),
-        Err(fault) => Err(fault),
+    match wrong_sum(alloc, folder, edition)? {
+        None => Ok(refused(edition)),
+        Some(file) => Ok(Some(EditionFlaw::Sum(file))),
     }
 }

@@ -41,10 +41,7 @@ fn judge_next<S: EditionStore>(
     ensures right { IfOk result (λ j. IfRight j (IsRightNow (S.seen store.old) numbers.now served number)) }
     ensures added { IfOk result (λ j. findings.new.items ≡ findings.old.items ++ loops.finding_with number j ∷ []) }
 {
-    let judged = match judge_edition(alloc, store, numbers, served, number, before) {
-        Ok(judged) => judged,
-        Err(fault) => return Err(fault),
-    };
+    let judged = judge_edition(alloc, store, numbers, served, number, before)?;
     let note = note_of(&judged);
     match findings.push(EditionFinding { number, note }) {
         Ok(()) => Ok(judged),
@@ -113,19 +110,14 @@ fn find_by<S: EditionStore>(
     ensures found { IfOk result (λ found. IfSome (S.seen store.old).state
         (λ f. IsFoundIn f found.numbers.items found.current found.findings.items)) }
 {
-    let current = match read_current(alloc, store, numbers.as_slice()) {
-        Ok(current) => current,
-        Err(fault) => return Err(fault),
-    };
+    let current = read_current(alloc, store, numbers.as_slice())?;
     let served = served_of(current, numbers.as_slice());
-    match judge_all(alloc, store, numbers.as_slice(), served) {
-        Ok(findings) => Ok(FoundFolder {
-            numbers,
-            current,
-            findings,
-        }),
-        Err(fault) => Err(fault),
-    }
+    let findings = judge_all(alloc, store, numbers.as_slice(), served)?;
+    Ok(FoundFolder {
+        numbers,
+        current,
+        findings,
+    })
 }
 
 fn find_all<S: EditionStore>(alloc: Global, store: &mut S) -> Result<FoundFolder, FolderFault>
@@ -134,10 +126,8 @@ fn find_all<S: EditionStore>(alloc: Global, store: &mut S) -> Result<FoundFolder
     ensures found { IfOk result (λ found. IfSome (S.seen store.old).state
         (λ f. IsFoundIn f found.numbers.items found.current found.findings.items)) }
 {
-    match sorted_numbers(alloc, store) {
-        Ok(numbers) => find_by(alloc, store, numbers),
-        Err(fault) => Err(fault),
-    }
+    let numbers = sorted_numbers(alloc, store)?;
+    find_by(alloc, store, numbers)
 }
 
 fn is_right_current(current: FoundCurrent) -> bool
@@ -183,10 +173,8 @@ fn verified<S: EditionStore>(
     ensures unchanged { IsUnchanged (S.seen store.old) (S.seen store.new) }
     ensures said { IfOk result (λ said. IsVerification (S.seen store.old) folder.now said.text.items said.status) }
 {
-    match find_all(alloc, store) {
-        Ok(found) => said_of(alloc, folder, &found),
-        Err(fault) => Err(fault),
-    }
+    let found = find_all(alloc, store)?;
+    said_of(alloc, folder, &found)
 }
 
 /// Verifies a folder of editions. `folder` is its path, as it is printed before the files in it.

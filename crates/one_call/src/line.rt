@@ -27,10 +27,7 @@ fn begin<W: Sink>(
     ensures { IsBegun groups.now base.now (W.seen sink.old) (W.seen sink.new) result }
 {
     let mut text = Vec::new(alloc);
-    let call = match OneCall::begin(alloc, &mut text, base, groups) {
-        Ok(call) => call,
-        Err(fault) => return Err(fault),
-    };
+    let call = OneCall::begin(alloc, &mut text, base, groups)?;
     match write_whole(sink, text.as_slice()) {
         Ok(()) => Ok(call),
         Err(_) => Err(ServeFault::Write),

@@ -47,10 +47,7 @@ fn read_current<F: EditionFolder>(alloc: Global, folder: &mut F) -> Result<Serve
     ensures read { IfOk result (IsCurrentRead (F.seen folder.old)) }
     ensures fault { IfErr result IsBeforeCheck }
 {
-    let number = match current_number(alloc, folder) {
-        Ok(number) => number,
-        Err(fault) => return Err(fault),
-    };
+    let number = current_number(alloc, folder)?;
     match read_edition(alloc, folder, number) {
         Ok(served) => Ok(served),
         Err(fault) => Err(read_fault(number, fault)),

@@ -9,6 +9,8 @@ use Rattle.lint.specs.FrameLines.{frame_lines_in}
 use Rattle.lint.specs.declared.lines.WrittenBase.{WrittenBase}
 use Rattle.cert_table.specs.Table.{CertView}
 use Rattle.base_text.specs.declared.fault.BaseFault.{BaseFault}
+use Rattle.devices.specs.declared.reading.SourceFault.{SourceFault}
+use Rattle.devices.specs.declared.reading.SourceFault.TheVariants.{Broken, Memory as SourceMemory}
 use Rattle.audit_report.specs.declared.run_fault.RunFault.{RunFault}
 use Rattle.audit_report.specs.declared.run_fault.RunFault.TheVariants as run
 use Rattle.pageaudit.specs.declared.file_fault.FileFault.{FileFault}
@@ -128,7 +130,12 @@ IsEditionFault files (part.Cert fault) = (base : BaseView) × IsBaseOfFile files
 abbrev pub IsEditionRead : EditionFiles → Result (BaseView × CertView) EditionFault → Type 0
 IsEditionRead files answer = MatchResult answer (λ edition. IsEditionOf files edition.0 edition.1) (IsEditionFault files)
 
--- The run's fault for a file's fault.
+-- The fault for another one.
+
+-- of a file that can't be read whole
+abbrev pub source_fault : {F : Type 0} → SourceFault → FileFault F
+source_fault Broken = file.Broken
+source_fault SourceMemory = file.Memory
 
 -- for a fault of the base's file
 abbrev pub base_fault : FileFault BaseFault → RunFault

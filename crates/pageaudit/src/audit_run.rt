@@ -4,7 +4,6 @@ ghost use Rattle.audit_report.specs.Statuses.{status_of_outcome};
 ghost use Rattle.pageaudit.specs.Files.{device, IsTextWritten};
 ghost use Rattle.pageaudit.specs.AuditRun.{IsAuditRun, IsAuditIntoRun, IsSplitWritten};
 
-use crate::file_fault::base_fault;
 use crate::input::read_base;
 use crate::output::write_text;
 use audit_report::{RunFault, Sink, Source, Status, report};
@@ -19,10 +18,8 @@ fn write_report<O: Sink>(alloc: Global, out: &mut O, outcome: &Outcome) -> Resul
         (status_of_outcome outcome.now) result }
     ensures in_grammar { result ≢ Err RunFault.Memory → IsReport (report_text outcome.now) outcome.now }
 {
-    match report(alloc, outcome) {
-        Ok(text) => write_text(out, text.as_slice(), Status::of_outcome(outcome)),
-        Err(_) => Err(RunFault::Memory),
-    }
+    let text = report(alloc, outcome).map_err(|_| RunFault::Memory)?;
+    write_text(out, text.as_slice(), Status::of_outcome(outcome))
 }
 
 /// Audits a base and writes the certificate, or every fault with the keys that show it.
@@ -42,14 +39,11 @@ pub fn run_audit<B: Source, O: Sink>(
     // read. A fault: the first one, of the base's file or of the output.
     ensures { IsAuditRun (device B.seen base.old base.new) (device O.seen out.old out.new) policy.now result }
 {
-    let base = match read_base(alloc, base) {
-        Ok(base) => base,
-        Err(fault) => return Err(base_fault(fault)),
+    let base = read_base(alloc, base)?;
+    let Ok(outcome) = audit(alloc, &base, policy) else {
+        return Err(RunFault::Memory);
     };
-    match audit(alloc, &base, policy) {
-        Ok(outcome) => write_report(alloc, out, &outcome),
-        Err(_) => Err(RunFault::Memory),
-    }
+    write_report(alloc, out, &outcome)
 }
 
 // Writes the report of an outcome: a certificate to its own file, faults to the output.
@@ -89,12 +83,9 @@ pub fn run_audit_into<B: Source, C: Sink, O: Sink>(
     ensures { IsAuditIntoRun (device B.seen base.old base.new) (device C.seen cert.old cert.new)
         (device O.seen out.old out.new) policy.now result }
 {
-    let base = match read_base(alloc, base) {
-        Ok(base) => base,
-        Err(fault) => return Err(base_fault(fault)),
+    let base = read_base(alloc, base)?;
+    let Ok(outcome) = audit(alloc, &base, policy) else {
+        return Err(RunFault::Memory);
     };
-    match audit(alloc, &base, policy) {
-        Ok(outcome) => write_split(alloc, cert, out, &outcome),
-        Err(_) => Err(RunFault::Memory),
-    }
+    write_split(alloc, cert, out, &outcome)
 }

@@ -20,10 +20,8 @@ fn write_change<O: Sink>(
     ensures { IsTextWritten (device O.seen out.old out.new) (change_text verdict.now)
         (status_of_change verdict.now) result }
 {
-    match change_text(alloc, verdict) {
-        Ok(text) => write_text(out, text.as_slice(), Status::of_change(verdict)),
-        Err(_) => Err(RunFault::Memory),
-    }
+    let text = change_text(alloc, verdict).map_err(|_| RunFault::Memory)?;
+    write_text(out, text.as_slice(), Status::of_change(verdict))
 }
 
 /// Checks if a new edition may take an old one's place while callers are inside, and writes the line of the verdict.

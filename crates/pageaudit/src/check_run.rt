@@ -4,7 +4,6 @@ ghost use Rattle.audit_report.specs.Statuses.{status_of_verdict};
 ghost use Rattle.pageaudit.specs.Files.{device, IsTextWritten};
 ghost use Rattle.pageaudit.specs.CheckRun.{IsCheckRun, HoldsOfFiles};
 
-use crate::file_fault::{base_fault, cert_fault};
 use crate::input::{read_base, read_cert};
 use crate::output::write_text;
 use audit_report::{RunFault, Sink, Source, Status, verdict_text};
@@ -17,10 +16,8 @@ fn write_verdict<O: Sink>(alloc: Global, out: &mut O, verdict: &Verdict) -> Resu
     ensures { IsTextWritten (device O.seen out.old out.new) (verdict_text verdict.now)
         (status_of_verdict verdict.now) result }
 {
-    match verdict_text(alloc, verdict) {
-        Ok(text) => write_text(out, text.as_slice(), Status::of_verdict(verdict)),
-        Err(_) => Err(RunFault::Memory),
-    }
+    let text = verdict_text(alloc, verdict).map_err(|_| RunFault::Memory)?;
+    write_text(out, text.as_slice(), Status::of_verdict(verdict))
 }
 
 /// Checks a certificate against a base and writes the line of the verdict.
@@ -51,11 +48,11 @@ pub fn run_check<B: Source, C: Source, O: Sink>(
 {
     let base = match read_base(alloc, base) {
         Ok(base) => base,
-        Err(fault) => return Err(base_fault(fault)),
+        Err(fault) => return Err(RunFault::from(fault)),
     };
     let cert = match read_cert(alloc, cert) {
         Ok(cert) => cert,
-        Err(fault) => return Err(cert_fault(fault)),
+        Err(fault) => return Err(RunFault::from(fault)),
     };
     let verdict = check(&base, policy, &cert);
     write_verdict(alloc, out, &verdict)

@@ -5,7 +5,7 @@ ghost use Rattle.pageaudit.specs.Files.{device};
 ghost use Rattle.pageaudit.specs.ChangeRun.{edition_files};
 ghost use Rattle.pageaudit.specs.Loops.{IsEditionRead, old_fault, new_fault};
 
-use crate::file_fault::{FileFault, base_fault, cert_fault};
+use crate::file_fault::FileFault;
 use crate::input::{read_base, read_cert};
 use audit_report::{RunFault, Source};
 use base_text::BaseFault;
@@ -49,8 +49,8 @@ pub fn old_fault(fault: EditionFault) -> RunFault
     ensures { result ≡ old_fault fault }
 {
     match fault {
-        EditionFault::Base(fault) => base_fault(fault),
-        EditionFault::Cert(fault) => cert_fault(fault),
+        EditionFault::Base(fault) => RunFault::from(fault),
+        EditionFault::Cert(fault) => RunFault::from(fault),
     }
 }
 

@@ -4,7 +4,6 @@ ghost use Rattle.pageaudit.specs.ExportRun.{IsExportRead, IsScreenWritten};
 ghost use Rattle.screen_forms.specs.Forms.{form_bytes};
 ghost use Rattle.audit_report.specs.declared.status.Status.TheVariants.{Clear};
 
-use crate::file_fault::base_fault;
 use crate::input::read_base;
 use crate::output::write_text;
 use audit_report::{RunFault, Sink, Source, Status};
@@ -19,10 +18,7 @@ pub fn read_exported<B: Source>(alloc: Global, base: &mut B) -> Result<Base, Run
     requires { (B.seen base.old).failed ≡ false }
     ensures { IsExportRead (device B.seen base.old base.new) result }
 {
-    match read_base(alloc, base) {
-        Ok(base) => Ok(base),
-        Err(fault) => Err(base_fault(fault)),
-    }
+    Ok(read_base(alloc, base)?)
 }
 
 // Writes the file of a frame's screen.
@@ -37,10 +33,8 @@ fn write_form<O: Sink>(
     ensures { IsTextWritten (device O.seen out.old out.new) (form_bytes form id codes.now) Clear result }
 {
     let mut bytes = Vec::new(alloc);
-    match push_form(alloc, &mut bytes, form, id, codes) {
-        Ok(()) => write_text(out, bytes.as_slice(), Status::Clear),
-        Err(_) => Err(RunFault::Memory),
-    }
+    push_form(alloc, &mut bytes, form, id, codes).map_err(|_| RunFault::Memory)?;
+    write_text(out, bytes.as_slice(), Status::Clear)
 }
 
 /// Writes the file of the screen of a frame, in a form. The screen is that of `show`: the one after the keys that lead there, or of the
@@ -57,8 +51,6 @@ pub fn run_export<O: Sink>(
     requires { (O.seen out.old).failed ≡ false }
     ensures { IsScreenWritten (device O.seen out.old out.new) gallery.now form id result }
 {
-    match gallery.screen(alloc, id) {
-        Ok(codes) => write_form(alloc, form, id, &codes, out),
-        Err(_) => Err(RunFault::Memory),
-    }
+    let codes = gallery.screen(alloc, id).map_err(|_| RunFault::Memory)?;
+    write_form(alloc, form, id, &codes, out)
 }

@@ -1,7 +1,7 @@
 ghost use Rattle.std.specs.Prelude.{◌≡◌};
-ghost use Rattle.pageaudit.specs.Loops.{base_fault, cert_fault};
+ghost use Rattle.pageaudit.specs.Loops.{base_fault, cert_fault, source_fault};
 
-use audit_report::RunFault;
+use audit_report::{RunFault, SourceFault};
 use base_text::BaseFault;
 use cert_text::ReadFault;
 
@@ -16,24 +16,39 @@ pub enum FileFault<F> {
     Memory,
 }
 
+impl<F> From<SourceFault> for FileFault<F> {
+    ghost from_gives = { λ fault e. e ≡ source_fault fault };
+
+    fn from(fault: SourceFault) -> FileFault<F> {
+        match fault {
+            SourceFault::Broken => FileFault::Broken,
+            SourceFault::Memory => FileFault::Memory,
+        }
+    }
+}
+
 // The run's fault, if the file is the base.
-pub fn base_fault(fault: FileFault<BaseFault>) -> RunFault
-    ensures { result ≡ base_fault fault }
-{
-    match fault {
-        FileFault::Text(fault) => RunFault::Base(fault),
-        FileFault::Broken => RunFault::ReadBase,
-        FileFault::Memory => RunFault::Memory,
+impl From<FileFault<BaseFault>> for RunFault {
+    ghost from_gives = { λ fault e. e ≡ base_fault fault };
+
+    fn from(fault: FileFault<BaseFault>) -> RunFault {
+        match fault {
+            FileFault::Text(fault) => RunFault::Base(fault),
+            FileFault::Broken => RunFault::ReadBase,
+            FileFault::Memory => RunFault::Memory,
+        }
     }
 }
 
 // The run's fault, if the file is the certificate.
-pub fn cert_fault(fault: FileFault<ReadFault>) -> RunFault
-    ensures { result ≡ cert_fault fault }
-{
-    match fault {
-        FileFault::Text(fault) => RunFault::Cert(fault),
-        FileFault::Broken => RunFault::ReadCert,
-        FileFault::Memory => RunFault::Memory,
+impl From<FileFault<ReadFault>> for RunFault {
+    ghost from_gives = { λ fault e. e ≡ cert_fault fault };
+
+    fn from(fault: FileFault<ReadFault>) -> RunFault {
+        match fault {
+            FileFault::Text(fault) => RunFault::Cert(fault),
+            FileFault::Broken => RunFault::ReadCert,
+            FileFault::Memory => RunFault::Memory,
+        }
     }
 }

@@ -1,12 +1,12 @@
 ghost use Rattle.std.specs.Prelude.{◌≡◌, false};
 ghost use Rattle.screen_files.specs.Files.{found_in};
-ghost use Rattle.pageaudit.specs.Files.{device, IsTextWritten};
-ghost use Rattle.pageaudit.specs.declared.import_run.ImportStatus.TheVariants.{Printed};
+ghost use Rattle.pageaudit.specs.Files.{device};
 ghost use Rattle.pageaudit.specs.ImportRun.{AreFramesTaken, IsImportRun, import_number};
 ghost use Rattle.pageaudit.specs.Loops.{AreFramesFound};
 
+use crate::output::write_text;
 use crate::status::status_of;
-use audit_report::{RunFault, Sink, Source, SourceFault, read_whole, write_whole};
+use audit_report::{RunFault, Sink, Source, SourceFault, read_whole};
 use page_ids::PageNo;
 use screen_files::{
     AddFault, Album, BaseTextFault, FileFrames, FileKind, FramesFault, MOST_SCREEN, ScreenFault,
@@ -75,25 +75,11 @@ pub fn take_frames<S: Source>(
         Err(SourceFault::Broken) => return Err(ImportFault::Broken),
         Err(SourceFault::Memory) => return Err(ImportFault::Memory),
     };
-    let found = match find(alloc, kind, path, file, bytes.as_slice()) {
-        Ok(found) => found,
-        Err(fault) => return Err(fault),
-    };
+    let found = find(alloc, kind, path, file, bytes.as_slice())?;
     match album.add(found.frames.frames()) {
         Ok(()) => Ok(found),
         Err(AddFault::TooMany) => Err(ImportFault::TooMany),
         Err(AddFault::Memory) => Err(ImportFault::Memory),
-    }
-}
-
-// Writes the text of a base.
-fn write_base<O: Sink>(out: &mut O, text: &[u8]) -> Result<ImportStatus, RunFault>
-    requires { (O.seen out.old).failed ≡ false }
-    ensures { IsTextWritten (device O.seen out.old out.new) text.now Printed result }
-{
-    match write_whole(out, text) {
-        Ok(()) => Ok(ImportStatus::Printed),
-        Err(fault) => Err(RunFault::Write(fault.wrote)),
     }
 }
 
@@ -112,7 +98,7 @@ pub fn run_import<O: Sink>(
     ensures { IsImportRun (device O.seen out.old out.new) entry guesses settled.now.frames result }
 {
     match base_text(alloc, entry, guesses, settled) {
-        Ok(text) => write_base(out, text.as_slice()),
+        Ok(text) => write_text(out, text.as_slice(), ImportStatus::Printed),
         Err(BaseTextFault::TooLong(file)) => Ok(ImportStatus::TooLong(file)),
         Err(BaseTextFault::Memory) => Err(RunFault::Memory),
     }

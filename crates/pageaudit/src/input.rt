@@ -6,7 +6,7 @@ ghost use Rattle.pageaudit.specs.Files.{device};
 ghost use Rattle.pageaudit.specs.Loops.{IsBaseRead, IsCertRead, IsBaseAnswer, IsLinedRead, IsLinedAnswer, IsPieceTaken, IsFed};
 
 use crate::file_fault::FileFault;
-use audit_report::{Source, SourceFault, read_whole};
+use audit_report::{Source, read_whole};
 use base_text::{BaseCause, BaseFault, MOST_TEXT, base_read};
 use cert_table::Certificate;
 use cert_text::{CertReader, ReadFault};
@@ -41,11 +41,8 @@ pub fn read_base<S: Source>(alloc: Global, source: &mut S) -> Result<Base, FileF
     requires { (S.seen source.old).failed ≡ false }
     ensures { IsBaseRead (device S.seen source.old source.new) result }
 {
-    match read_whole(alloc, source, MOST_TEXT + 1) {
-        Ok(text) => base_of(alloc, text.as_slice()),
-        Err(SourceFault::Broken) => Err(FileFault::Broken),
-        Err(SourceFault::Memory) => Err(FileFault::Memory),
-    }
+    let text = read_whole(alloc, source, MOST_TEXT + 1)?;
+    base_of(alloc, text.as_slice())
 }
 
 // The base of a text, and where it writes the frames. A text that is refused is read once more, for its first fault.
@@ -70,11 +67,7 @@ pub fn read_lined<S: Source>(
     requires { (S.seen source.old).failed ≡ false }
     ensures { IsLinedRead (device S.seen source.old source.new) result }
 {
-    let text = match read_whole(alloc, source, MOST_TEXT + 1) {
-        Ok(text) => text,
-        Err(SourceFault::Broken) => return Err(FileFault::Broken),
-        Err(SourceFault::Memory) => return Err(FileFault::Memory),
-    };
+    let text = read_whole(alloc, source, MOST_TEXT + 1)?;
     written_of(alloc, text.as_slice())
 }
 
@@ -131,11 +124,9 @@ pub fn read_cert<S: Source>(
     ensures { IsCertRead (device S.seen source.old source.new) result }
 {
     let mut reader = CertReader::new(alloc);
-    match feed_whole(source, &mut reader) {
-        Ok(()) => match reader.finish() {
-            Ok(cert) => Ok(cert),
-            Err(fault) => Err(FileFault::Text(fault)),
-        },
-        Err(fault) => Err(fault),
+    feed_whole(source, &mut reader)?;
+    match reader.finish() {
+        Ok(cert) => Ok(cert),
+        Err(fault) => Err(FileFault::Text(fault)),
     }
 }

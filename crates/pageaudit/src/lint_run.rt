@@ -1,9 +1,10 @@
 ghost use Rattle.std.specs.Prelude.{◌≡◌, false, IfOk};
-ghost use Rattle.pageaudit.specs.Files.{device, IsTextWritten};
+ghost use Rattle.pageaudit.specs.Files.{device};
 ghost use Rattle.pageaudit.specs.LintRun.{AreCounted, IsLintRun, all_count, lint_number, reaches};
 
+use crate::output::write_text;
 use crate::status::status_of;
-use audit_report::{RunFault, Sink, Source, SourceFault, read_whole, write_whole};
+use audit_report::{RunFault, Sink, Source, SourceFault, read_whole};
 use base_text::MOST_TEXT;
 use checker::Policy;
 use finding_forms::{Format, findings_text};
@@ -30,17 +31,6 @@ impl LintReport {
             ignored: Ignored::NONE,
             is_quiet: false,
         }
-    }
-}
-
-// Writes the lines of findings; returns their numbers if all lines were taken and flushed.
-fn write_lines<O: Sink>(out: &mut O, lines: &[u8], counts: Counts) -> Result<Counts, RunFault>
-    requires { (O.seen out.old).failed ≡ false }
-    ensures { IsTextWritten (device O.seen out.old out.new) lines.now counts result }
-{
-    match write_whole(out, lines) {
-        Ok(()) => Ok(counts),
-        Err(fault) => Err(RunFault::Write(fault.wrote)),
     }
 }
 
@@ -95,7 +85,7 @@ pub fn run_lint<B: Source, O: Sink>(
         text.as_slice(),
         findings.as_slice(),
     ) {
-        Ok(lines) => write_lines(out, lines.as_slice(), counts),
+        Ok(lines) => write_text(out, lines.as_slice(), counts),
         Err(_) => Err(RunFault::Memory),
     }
 }

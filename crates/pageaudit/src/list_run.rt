@@ -2,7 +2,6 @@ ghost use Rattle.std.specs.Prelude.{◌≡◌, false};
 ghost use Rattle.pageaudit.specs.Files.{device, IsTextWritten};
 ghost use Rattle.pageaudit.specs.ListRun.{IsListRun, status_of_entry};
 
-use crate::file_fault::base_fault;
 use crate::input::read_base;
 use audit_report::{ListForm, Listing, RunFault, Sink, Source, Status, list};
 use frame_records::Groups;
@@ -51,12 +50,9 @@ pub fn run_list<B: Source, O: Sink>(
     // read. A fault: the first one, of the base's file or of the output.
     ensures { IsListRun (device B.seen base.old base.new) (device O.seen out.old out.new) groups.now form result }
 {
-    let base = match read_base(alloc, base) {
-        Ok(base) => base,
-        Err(fault) => return Err(base_fault(fault)),
+    let base = read_base(alloc, base)?;
+    let Ok(listing) = list(alloc, form, &base, groups) else {
+        return Err(RunFault::Memory);
     };
-    match list(alloc, form, &base, groups) {
-        Ok(listing) => write_listing(out, listing),
-        Err(_) => Err(RunFault::Memory),
-    }
+    write_listing(out, listing)
 }

@@ -2,10 +2,10 @@ ghost use Rattle.std.specs.Prelude.{◌≡◌, false};
 ghost use Rattle.pageaudit.specs.Files.{device};
 ghost use Rattle.pageaudit.specs.MapRun.{IsMapRun, IsMapWritten, map_number};
 
-use crate::file_fault::base_fault;
 use crate::input::read_base;
+use crate::output::write_text;
 use crate::status::status_of;
-use audit_report::{RunFault, Sink, Source, write_whole};
+use audit_report::{RunFault, Sink, Source};
 use base_map::map_view;
 use finder::View;
 use frame_records::Groups;
@@ -25,12 +25,9 @@ fn write_map<O: Sink>(out: &mut O, map: Option<Vec<u8>>) -> Result<MapStatus, Ru
     requires { (O.seen out.old).failed ≡ false }
     ensures { IsMapWritten (device O.seen out.old out.new) map result }
 {
-    let Some(text) = map else {
-        return Ok(MapStatus::NoPage);
-    };
-    match write_whole(out, text.as_slice()) {
-        Ok(()) => Ok(MapStatus::Drawn),
-        Err(fault) => Err(RunFault::Write(fault.wrote)),
+    match map {
+        Some(text) => write_text(out, text.as_slice(), MapStatus::Drawn),
+        None => Ok(MapStatus::NoPage),
     }
 }
 
@@ -53,14 +50,11 @@ pub fn run_map<B: Source, O: Sink>(
     // first one, of the base's file or of the output.
     ensures { IsMapRun (device B.seen base.old base.new) (device O.seen out.old out.new) groups.now view.now result }
 {
-    let base = match read_base(alloc, base) {
-        Ok(base) => base,
-        Err(fault) => return Err(base_fault(fault)),
+    let base = read_base(alloc, base)?;
+    let Ok(map) = map_view(alloc, &base, groups, view) else {
+        return Err(RunFault::Memory);
     };
-    match map_view(alloc, &base, groups, view) {
-        Ok(map) => write_map(out, map),
-        Err(_) => Err(RunFault::Memory),
-    }
+    write_map(out, map)
 }
 
 /// The program's exit status after a run of map: 0 a map, 2 no such page; of a fault as `status_of`.

@@ -2,7 +2,6 @@ ghost use Rattle.std.specs.Prelude.{◌≡◌, false};
 ghost use Rattle.pageaudit.specs.Files.{device};
 ghost use Rattle.pageaudit.specs.PagesRun.{IsPagesFileRun, pages_number, run_of};
 
-use crate::file_fault::base_fault;
 use crate::input::read_lined;
 use crate::status::status_of;
 use audit_report::{RunFault, Sink, Source};
@@ -46,7 +45,7 @@ pub fn run_pages<B: Source, O: Sink>(
 {
     let read = match read_lined(alloc, base) {
         Ok(read) => read,
-        Err(fault) => return Err(base_fault(fault)),
+        Err(fault) => return Err(RunFault::from(fault)),
     };
     let source = BaseSource {
         name,

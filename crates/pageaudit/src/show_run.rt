@@ -6,10 +6,10 @@ ghost use Rattle.pageaudit.specs.Files.{device};
 ghost use Rattle.pageaudit.specs.ShowRun.{address_line, screen_text, IsEntryAnswer, IsWayAnswer, IsFrameAnswer, IsLostAnswer};
 ghost use Rattle.pageaudit.specs.ShowRun.{IsKeyedAnswer, IsShown, IsAnswerWritten, IsShowRun, show_number};
 
-use crate::file_fault::base_fault;
 use crate::input::read_base;
+use crate::output::write_text;
 use crate::status::status_of;
-use audit_report::{RunFault, Sink, Source, write_whole};
+use audit_report::{RunFault, Sink, Source};
 use frame_records::{Base, Groups};
 use frame_screens::{FrameList, NoScreen, frames_after, nearest, screen, way_to};
 use page_ids::{FrameId, Key, KeyList, PageNo};
@@ -192,10 +192,7 @@ fn write_answer<O: Sink>(out: &mut O, answer: ShowAnswer) -> Result<ShowStatus, 
 {
     match answer {
         ShowAnswer::Nothing(status) => Ok(status),
-        ShowAnswer::Screen(text) => match write_whole(out, text.as_slice()) {
-            Ok(()) => Ok(ShowStatus::Shown),
-            Err(fault) => Err(RunFault::Write(fault.wrote)),
-        },
+        ShowAnswer::Screen(text) => write_text(out, text.as_slice(), ShowStatus::Shown),
     }
 }
 
@@ -220,14 +217,11 @@ pub fn run_show<B: Source, O: Sink>(
     ensures { IsShowRun (device B.seen base.old base.new) (device O.seen out.old out.new)
         groups.now target.now form result }
 {
-    let base = match read_base(alloc, base) {
-        Ok(base) => base,
-        Err(fault) => return Err(base_fault(fault)),
+    let base = read_base(alloc, base)?;
+    let Ok(answer) = answer_of(alloc, &base, groups, target, form) else {
+        return Err(RunFault::Memory);
     };
-    match answer_of(alloc, &base, groups, target, form) {
-        Ok(answer) => write_answer(out, answer),
-        Err(_) => Err(RunFault::Memory),
-    }
+    write_answer(out, answer)
 }
 
 /// The program's exit status after a run of show: 0 a screen, 1 a session that can't be opened or leaves the base, 2 a frame that

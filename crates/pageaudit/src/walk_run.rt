@@ -4,7 +4,6 @@ ghost use Rattle.pageaudit.specs.Files.{device, IsTextWritten};
 ghost use Rattle.pageaudit.specs.WalkRun.{IsWalkRun, IsKeysAnswer, session_text, session_status};
 ghost use Rattle.pageaudit.specs.Loops.{IsSessionAnswer};
 
-use crate::file_fault::base_fault;
 use crate::input::read_base;
 use crate::output::write_text;
 use audit_report::{RunFault, Sink, Source, Status, entry_text, walk_text};
@@ -81,10 +80,8 @@ fn write_session<O: Sink>(
     ensures { let session = session_of groups.now base.now keys.now in
         IsTextWritten (device O.seen out.old out.new) (session_text base.now session) (session_status session) result }
 {
-    match session_text(alloc, base, groups, keys) {
-        Ok((text, status)) => write_text(out, text.as_slice(), status),
-        Err(_) => Err(RunFault::Memory),
-    }
+    let (text, status) = session_text(alloc, base, groups, keys).map_err(|_| RunFault::Memory)?;
+    write_text(out, text.as_slice(), status)
 }
 
 /// Runs a caller's keys from the entry page and writes a line for each reply, the opening one first.
@@ -105,12 +102,7 @@ pub fn run_walk<B: Source, O: Sink>(
     // what was read. A fault: the first one, of the keys, of the base's file, or of the output.
     ensures { IsWalkRun (device B.seen base.old base.new) (device O.seen out.old out.new) groups.now keys.now result }
 {
-    let keys = match read_keys(alloc, keys) {
-        Ok(keys) => keys,
-        Err(fault) => return Err(fault),
-    };
-    match read_base(alloc, base) {
-        Ok(base) => write_session(alloc, out, &base, groups, &keys),
-        Err(fault) => Err(base_fault(fault)),
-    }
+    let keys = read_keys(alloc, keys)?;
+    let base = read_base(alloc, base)?;
+    write_session(alloc, out, &base, groups, &keys)
 }

@@ -166,15 +166,11 @@ fn publish_texts<S: EditionStore>(
     ensures sound { LeavesSound (S.seen store.old) (S.seen store.new) }
     ensures dry { asked.now.dry_run ≡ true → (S.seen store.new).state ≡ (S.seen store.old).state }
 {
-    match lint_base(alloc, said, asked, texts.base.as_slice(), &policy) {
-        Ok(None) => {}
-        Ok(Some(counts)) => return Ok(PublishStatus::Faulty(counts)),
-        Err(fault) => return Err(fault),
+    if let Some(counts) = lint_base(alloc, said, asked, texts.base.as_slice(), &policy)? {
+        return Ok(PublishStatus::Faulty(counts));
     }
-    match candidate_of(alloc, &texts, policy) {
-        Ok(candidate) => { publish_candidate(alloc, store, said, asked, texts, candidate, served) }
-        Err(fault) => Err(fault),
-    }
+    let candidate = candidate_of(alloc, &texts, policy)?;
+    publish_candidate(alloc, store, said, asked, texts, candidate, served)
 }
 
 // A base's text, unless it is served already.
@@ -256,16 +252,11 @@ fn publish_by<S: EditionStore, B: Source>(
     ensures dry { asked.now.dry_run ≡ true → (S.seen store.new).state ≡ (S.seen store.old).state }
 {
     let (policy_text, policy) = read;
-    match base_text(alloc, base) {
-        Ok(text) => {
-            let texts = EditionTexts {
-                base: text,
-                policy: policy_text,
-            };
-            publish_base(alloc, store, said, asked, texts, policy)
-        }
-        Err(fault) => Err(fault),
-    }
+    let texts = EditionTexts {
+        base: base_text(alloc, base)?,
+        policy: policy_text,
+    };
+    publish_base(alloc, store, said, asked, texts, policy)
 }
 
 fn publish_from<S: EditionStore, B: Source>(
@@ -332,10 +323,10 @@ pub fn run_publish<S: EditionStore, B: Source, O: Sink>(
 {
     let mut said = Vec::new(alloc);
     match publish_from(alloc, store, base, &mut said, asked) {
-        Ok(status) => match write_said(out, said.as_slice()) {
-            Ok(()) => Ok(status),
-            Err(fault) => Err(fault),
-        },
+        Ok(status) => {
+            write_said(out, said.as_slice())?;
+            Ok(status)
+        }
         Err(fault) => {
             let _ = write_said(out, said.as_slice());
             Err(fault)

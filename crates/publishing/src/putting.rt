@@ -81,13 +81,9 @@ pub fn put_unless_dry<S: EditionStore>(
     ensures dry { dry_run ≡ true → (S.seen store.new).state ≡ (S.seen store.old).state }
 {
     if dry_run {
-        return match number_after(alloc, store) {
-            Ok(number) => Ok(PublishStatus::Passed(number)),
-            Err(fault) => Err(fault),
-        };
+        let number = number_after(alloc, store)?;
+        return Ok(PublishStatus::Passed(number));
     }
-    match put(alloc, store, texts, candidate, served, new_callers, follows) {
-        Ok(number) => Ok(PublishStatus::Published(number)),
-        Err(fault) => Err(fault),
-    }
+    let number = put(alloc, store, texts, candidate, served, new_callers, follows)?;
+    Ok(PublishStatus::Published(number))
 }

@@ -71,10 +71,8 @@ fn current_edition<S: EditionStore>(
         Ok(None) => return Ok(None),
         Err(fault) => return Err(store_fault(fault)),
     };
-    match named_edition(alloc, store, text.as_slice()) {
-        Ok(served) => Ok(Some(served)),
-        Err(fault) => Err(fault),
-    }
+    let served = named_edition(alloc, store, text.as_slice())?;
+    Ok(Some(served))
 }
 
 // The greatest number of an edition, 0 if there is none.
@@ -173,15 +171,12 @@ fn edition_after<S: EditionStore>(
         (λ f. IsLeftAfter f served.now left))) }
     ensures most { IfOk result (λ o. IfSome o (λ left. left.number ≤ MOST_EDITION)) }
 {
-    match says_follows(alloc, store, number, served.number) {
-        Ok(true) => {}
-        Ok(false) => return Ok(None),
-        Err(fault) => return Err(fault),
+    if !says_follows(alloc, store, number, served.number)? {
+        return Ok(None);
     }
-    match whole_edition(alloc, store, number) {
-        Ok(Some(left)) if is_cleared_after(served, &left) => Ok(Some(left)),
-        Ok(_) => Ok(None),
-        Err(fault) => Err(fault),
+    match whole_edition(alloc, store, number)? {
+        Some(left) if is_cleared_after(served, &left) => Ok(Some(left)),
+        _ => Ok(None),
     }
 }
 
@@ -197,12 +192,11 @@ fn left_edition<S: EditionStore>(
         (λ f. IsLeftAfter f served.now left))) }
     ensures most { IfOk result (λ o. IfSome o (λ left. left.number ≤ MOST_EDITION)) }
 {
-    match greatest_number(alloc, store) {
-        Ok(number) if number <= MOST_EDITION && served.number < number => {
-            edition_after(alloc, store, number, served)
-        }
-        Ok(_) => Ok(None),
-        Err(fault) => Err(fault),
+    let number = greatest_number(alloc, store)?;
+    if number <= MOST_EDITION && served.number < number {
+        edition_after(alloc, store, number, served)
+    } else {
+        Ok(None)
     }
 }
 
@@ -242,10 +236,9 @@ fn finished<S: EditionStore>(
     ensures dry { dry_run ≡ true → (S.seen store.new).state ≡ (S.seen store.old).state }
     ensures now { dry_run ≡ false → IfOk result (λ s. IfSome (S.seen store.new).state (λ f. IsServedNow f s)) }
 {
-    match left_edition(alloc, store, &served) {
-        Ok(Some(left)) => make_current(alloc, store, left, dry_run),
-        Ok(None) => Ok(served),
-        Err(fault) => Err(fault),
+    match left_edition(alloc, store, &served)? {
+        Some(left) => make_current(alloc, store, left, dry_run),
+        None => Ok(served),
     }
 }
 
@@ -261,15 +254,11 @@ fn served_last<S: EditionStore>(
     ensures serves { dry_run ≡ false → IfOk result (λ served. IfSome (S.seen store.new).state
         (λ f. ServesNow f served)) }
 {
-    let served = match current_edition(alloc, store) {
-        Ok(Some(served)) => served,
-        Ok(None) => return Ok(None),
-        Err(fault) => return Err(fault),
+    let Some(served) = current_edition(alloc, store)? else {
+        return Ok(None);
     };
-    match finished(alloc, store, served, dry_run) {
-        Ok(served) => Ok(Some(served)),
-        Err(fault) => Err(fault),
-    }
+    let served = finished(alloc, store, served, dry_run)?;
+    Ok(Some(served))
 }
 
 /// The edition that is served, after the parts that a stop left are removed and an edition that it left is made current: whole,

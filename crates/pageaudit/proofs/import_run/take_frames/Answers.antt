@@ -11,7 +11,7 @@ returns-in-Err-TooMany g c =
     subst (λ (fault : AddFault). AreFramesFiled c.args.album.now c.add.new.self c.frames.result.now (Err fault)) c.in-Err-TooMany.field-0-is c.in-Err-TooMany.ensures.filed in (
       refused.0,
       record {
-        found = c.in-Ok-find.found;
+        found = c.in_ok-found.found;
         are = search rules;
         full = subst (λ frames. MOST_LISTED < length c.args.album.now + length frames) c.frames.ensures.all refused.1;
       },

@@ -10,7 +10,7 @@ use Rattle.pageaudit.proofs.lint_run.run_lint.Goals.{then-report, else-report}
 pub returns-in-Ok-findings_text : goal.returns-in-Ok-findings_text
 returns-in-Ok-findings_text g c =
     let base_file = device g.B.Source.seen c.args.base.now c.read_whole.new.source in
-    let out = device g.O.Sink.seen c.args.out.now c.write_lines.new.out in
+    let out = device g.O.Sink.seen c.args.out.now c.write_text.new.out in
     let path = c.args.path.now in
     let policy = c.args.policy.now in
     let report = c.args.report.now in
@@ -27,5 +27,5 @@ returns-in-Ok-findings_text g c =
     ] in
     let of_shown : ArePrinted report.format path text shown lines = search rules in
     let are_printed = subst (λ (fs : List FindingView). ArePrinted report.format path text fs lines) shown_is of_shown in
-    let written : IsTextWritten out lines counts c.write_lines.result = search rules in
-    lint_run base_file out path text read policy report findings counts are lines are_printed c.write_lines.result written
+    let written : IsTextWritten out lines counts c.write_text.result = search rules in
+    lint_run base_file out path text read policy report findings counts are lines are_printed c.write_text.result written
