@@ -130,9 +130,9 @@ IsEditionFault files (part.Cert fault) = (base : BaseView) × IsBaseOfFile files
 abbrev pub IsEditionRead : EditionFiles → Result (BaseView × CertView) EditionFault → Type 0
 IsEditionRead files answer = MatchResult answer (λ edition. IsEditionOf files edition.0 edition.1) (IsEditionFault files)
 
--- The fault for another one.
+-- What a fault of a lower layer is reported as.
 
--- of a file that can't be read whole
+-- for a fault of the source
 abbrev pub source_fault : {F : Type 0} → SourceFault → FileFault F
 source_fault Broken = file.Broken
 source_fault SourceMemory = file.Memory
