@@ -1,5 +1,5 @@
 -- What is printed of a base.
-use Rattle.std.specs.Prelude.{ℕ, nat_lt, List, [], ◌∷◌, ◌++◌, length, take, codes, decimal, Option, Some, None, count_by, if◌then◌else◌}
+use Rattle.std.specs.Prelude.{ℕ, nat_lt, ◌==◌, List, [], ◌∷◌, ◌++◌, length, take, codes, decimal, Option, Some, None, count_by, if◌then◌else◌}
 use Rattle.std.specs.List.{flat_map}
 use Rattle.page_ids.specs.Ids.{Id, frame_text}
 use Rattle.frame_records.specs.declared.frame.Frame.{Frame}
@@ -69,6 +69,10 @@ abbrev pub since_text : Option BaseView → BaseView → List ℕ
 since_text None new = []
 since_text (Some old) new = differences_text old new
 
+-- `frame` if there is one, else `frames`
+abbrev pub frames_word : ℕ → List ℕ
+frames_word n = if n == 1 then codes " frame" else codes " frames"
+
 -- the number of frames, and what differs
 abbrev pub summary : Option BaseView → BaseView → List ℕ
-summary old new = (decimal (length new.frames) ++ codes " frames") ++ since_text old new
+summary old new = (decimal (length new.frames) ++ frames_word (length new.frames)) ++ since_text old new

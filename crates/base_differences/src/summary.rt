@@ -1,6 +1,6 @@
 //! How a base differs from the one before it, as it is printed.
 
-ghost use Rattle.std.specs.Prelude.{◌≡◌, ◌++◌, IfOk, OnOk, take, codes};
+ghost use Rattle.std.specs.Prelude.{◌≡◌, ◌++◌, IfOk, OnOk, take};
 ghost use Rattle.std.specs.List.{flat_map};
 ghost use Rattle.std.specs.Option.{option_copied};
 ghost use Rattle.frame_records.specs.Bases.{frame_at};
@@ -194,14 +194,26 @@ fn push_differences(
     push_prices(out, old, new, differences.prices.as_slice())
 }
 
+// The word after a number of frames.
+fn frames_word(frames: usize) -> &'static [u8]
+    ensures { result.now ≡ spec.frames_word frames }
+{
+    if frames == 1 {
+        b" frame".as_slice()
+    } else {
+        b" frames".as_slice()
+    }
+}
+
 /// The number of frames of a base, and how it differs from the one before it: `79 frames, 2 new (4783a 4783b), 5
 /// changed, prices 4785a 10p -> 15p`. At most eight frames of a kind are named.
 pub fn base_summary(alloc: Global, old: Option<&Base>, new: &Base) -> Result<Vec<u8>, AllocError>
     ensures { IfOk result (λ text. text.items ≡ spec.summary (option_copied old.entry) new.now) }
 {
     let mut out = Vec::new(alloc);
-    push_number(&mut out, new.frames().len() as u64)?;
-    out.extend_from_slice(b" frames")?;
+    let frames = new.frames().len();
+    push_number(&mut out, frames as u64)?;
+    out.extend_from_slice(frames_word(frames))?;
     if let Some(old) = old {
         push_differences(alloc, &mut out, old, new)?;
     }

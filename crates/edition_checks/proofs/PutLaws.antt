@@ -1,6 +1,7 @@
 -- A candidate's edition is sound in a sound folder, under a new number.
 use Rattle.std.proofs.Common.{◌≡◌, ◌≤◌, ℕ, List, Option, Some, None, option_map, map, refl, sym, ap, ◌∙◌, subst}
 use Rattle.std.specs.Prelude.{Result, Ok, Err, IfOk, IfSome, is_some}
+use Rattle.std.specs.Result.{result_ok}
 use Rattle.editions.specs.declared.limits.TheConstants.{MOST_EDITION}
 use Rattle.editions.specs.Folders.{EditionBytes, edition_bytes, all_files, FolderState, SeenFolder, next_number, IsNewNumber}
 use Rattle.editions.specs.NumberLines.{follows_in, follows_text}
@@ -105,7 +106,7 @@ new_in : (o : Option FolderState) (numbers : List ℕ) (n : ℕ) → IfSome o (�
 new_in None numbers n is e = tt
 new_in (Some f) numbers n is e = next_new f.editions n (sym (ap next_number is) ∙ e)
 
-pub new_by : {E : Type 0} (o p : Option FolderState) (numbers slice : List ℕ) (r : Result ℕ E) → p ≡ o → slice ≡ numbers → IfSome p (λ f. numbers ≡ map (λ e. e.0) f.editions) → IfOk r (λ n. next_number slice ≡ Some n) → IfOk r (λ n. IfSome o (λ f. IsNewNumber f.editions n))
+pub new_by : {E : Type 0} (o p : Option FolderState) (numbers slice : List ℕ) (r : Result ℕ E) → p ≡ o → slice ≡ numbers → IfSome p (λ f. numbers ≡ map (λ e. e.0) f.editions) → next_number slice ≡ result_ok r → IfOk r (λ n. IfSome o (λ f. IsNewNumber f.editions n))
 new_by o p numbers slice (Err e) same is there next = tt
 new_by o p numbers slice (Ok n) same is there next =
     new_in o numbers n (subst (λ (q : Option FolderState). IfSome q (λ f. numbers ≡ map (λ e. e.0) f.editions)) same there) (sym (ap next_number is) ∙ next)

@@ -1,9 +1,6 @@
 //! An edition that the check clears, before it is published.
 
-ghost use Rattle.std.specs.Prelude.{◌≡◌, IfOk};
-ghost use Rattle.base_text.specs.Whole.{IsTextBase};
-ghost use Rattle.cert_text.specs.Grammar.{IsCertificateText};
-ghost use Rattle.checker.specs.Verdict.{verdict};
+ghost use Rattle.std.specs.Prelude.{IfOk};
 ghost use Rattle.edition_checks.specs.Candidates.{IsCandidate};
 
 use cert_table::Certificate;
@@ -41,56 +38,11 @@ pub enum CandidateFault {
 // The text of the certificate that the audit makes.
 fn audited(alloc: Global, base: &Base, policy: &Policy) -> Result<Vec<u8>, CandidateFault> {
     match audit(alloc, base, policy) {
-        Ok(Outcome::Certified(cert)) => match cert_write(alloc, &cert) {
-            Ok(text) => Ok(text),
-            Err(_) => Err(CandidateFault::Memory),
-        },
+        Ok(Outcome::Certified(cert)) => {
+            cert_write(alloc, &cert).map_err(|_| CandidateFault::Memory)
+        }
         Ok(Outcome::Faulty(_)) => Err(CandidateFault::Faulty),
         Err(_) => Err(CandidateFault::Memory),
-    }
-}
-
-// The base of a text.
-fn base_in(alloc: Global, text: &[u8]) -> Result<Base, CandidateFault>
-    ensures { IfOk result (IsTextBase text.now) }
-{
-    match base_of(alloc, text) {
-        Ok(base) => Ok(base),
-        Err(InputFault::Memory) => Err(CandidateFault::Memory),
-        Err(_) => Err(CandidateFault::NoBase),
-    }
-}
-
-// The certificate of a text, read back.
-fn cert_in(alloc: Global, text: &[u8]) -> Result<Certificate, CandidateFault>
-    ensures { IfOk result (IsCertificateText text.now) }
-{
-    match cert_of(alloc, text) {
-        Ok(cert) => Ok(cert),
-        Err(InputFault::Memory) => Err(CandidateFault::Memory),
-        Err(_) => Err(CandidateFault::NoCert),
-    }
-}
-
-// The base and its certificate, if the check clears it.
-fn checked(
-    base: Base,
-    cert: Certificate,
-    cert_text: Vec<u8>,
-    policy: Policy,
-) -> Result<Candidate, CandidateFault>
-    requires { IsCertificateText cert_text.items cert }
-    ensures { IfOk result (λ c. (c.base ≡ base) × IsCertificateText c.cert_text.items c.cert × (c.policy ≡ policy)
-        × (verdict c.base policy c.cert ≡ Verdict.Cleared)) }
-{
-    match check(&base, &policy, &cert) {
-        Verdict::Cleared => Ok(Candidate {
-            base,
-            cert,
-            cert_text,
-            policy,
-        }),
-        Verdict::Refused(cause) => Err(CandidateFault::Refused(cause)),
     }
 }
 
@@ -103,8 +55,24 @@ pub fn make_candidate(
 ) -> Result<Candidate, CandidateFault>
     ensures { IfOk result (IsCandidate text.now policy) }
 {
-    let base = base_in(alloc, text)?;
+    let base = match base_of(alloc, text) {
+        Ok(base) => base,
+        Err(InputFault::Memory) => return Err(CandidateFault::Memory),
+        Err(_) => return Err(CandidateFault::NoBase),
+    };
     let cert_text = audited(alloc, &base, &policy)?;
-    let cert = cert_in(alloc, cert_text.as_slice())?;
-    checked(base, cert, cert_text, policy)
+    let cert = match cert_of(alloc, cert_text.as_slice()) {
+        Ok(cert) => cert,
+        Err(InputFault::Memory) => return Err(CandidateFault::Memory),
+        Err(_) => return Err(CandidateFault::NoCert),
+    };
+    match check(&base, &policy, &cert) {
+        Verdict::Cleared => Ok(Candidate {
+            base,
+            cert,
+            cert_text,
+            policy,
+        }),
+        Verdict::Refused(cause) => Err(CandidateFault::Refused(cause)),
+    }
 }

@@ -1,7 +1,7 @@
 //! The edition of a candidate is written.
 
 ghost use Rattle.std.specs.Prelude.{◌≡◌, true, IfOk, IfSome};
-ghost use Rattle.editions.specs.Folders.{edition_bytes, next_number, IsNewNumber};
+ghost use Rattle.editions.specs.Folders.{edition_bytes, IsNewNumber};
 ghost use Rattle.edition_checks.specs.Served.{IsUnchanged};
 ghost use Rattle.edition_checks.specs.Putting.{IsToPublish, CanFollowIn, LeavesSound, IsPut, ServedMayBeFollowed};
 
@@ -20,19 +20,12 @@ pub enum PutFault {
     Memory,
 }
 
-fn put_fault(fault: StoreFault) -> PutFault {
-    match fault {
-        StoreFault::Broken => PutFault::Folder,
-        StoreFault::Memory => PutFault::Memory,
-    }
-}
-
-fn next_of(numbers: &[u32]) -> Result<u32, PutFault>
-    ensures { IfOk result (λ n. next_number numbers.now ≡ Some n) }
-{
-    match next_number(numbers) {
-        Some(number) => Ok(number),
-        None => Err(PutFault::Full),
+impl From<StoreFault> for PutFault {
+    fn from(fault: StoreFault) -> PutFault {
+        match fault {
+            StoreFault::Broken => PutFault::Folder,
+            StoreFault::Memory => PutFault::Memory,
+        }
     }
 }
 
@@ -42,14 +35,13 @@ fn new_number<S: EditionStore>(alloc: Global, store: &mut S) -> Result<u32, PutF
     ensures unchanged { IsUnchanged (S.seen store.old) (S.seen store.new) }
     ensures new { IfOk result (λ n. IfSome (S.seen store.old).state (λ f. IsNewNumber f.editions n)) }
 {
-    match store.numbers(alloc) {
-        Ok(numbers) => next_of(numbers.as_slice()),
-        Err(fault) => Err(put_fault(fault)),
-    }
+    let numbers = store.numbers(alloc)?;
+    next_number(numbers.as_slice()).ok_or(PutFault::Full)
 }
 
 /// Writes the edition of a candidate and makes it current; its number. `follows` is the number of the edition against which it was
 /// checked, if there is one.
+#[tactic(auto, using(crate::proofs::PutLaws::put_leaves))]
 pub fn put_candidate<S: EditionStore>(
     alloc: Global,
     store: &mut S,
@@ -69,19 +61,13 @@ pub fn put_candidate<S: EditionStore>(
     // Whatever it answers: a sound folder is left sound, and no edition has changed.
     ensures sound { LeavesSound (S.seen store.old) (S.seen store.new) }
 {
-    let number = match new_number(alloc, store) {
-        Ok(number) => number,
-        Err(fault) => return Err(fault),
-    };
+    let number = new_number(alloc, store)?;
     let Candidate { cert_text, .. } = candidate;
-    let edition = match WholeEdition::of(alloc, base_text, cert_text, policy_text, follows) {
-        Ok(edition) => edition,
-        Err(_) => return Err(PutFault::Memory),
+    let Ok(edition) = WholeEdition::of(alloc, base_text, cert_text, policy_text, follows) else {
+        return Err(PutFault::Memory);
     };
-    match put_edition(alloc, store, number, &edition) {
-        Ok(()) => Ok(number),
-        Err(fault) => Err(put_fault(fault)),
-    }
+    put_edition(alloc, store, number, &edition)?;
+    Ok(number)
 }
 
 /// The edition that is served may be followed by one that was cleared against it.

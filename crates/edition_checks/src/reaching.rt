@@ -1,15 +1,14 @@
 //! From an edition to a later one, along what each of them follows.
 
-ghost use Rattle.std.specs.Prelude.{◌≡◌, ◌<◌, ◌≤◌, Some, None, IfOk};
+ghost use Rattle.std.specs.Prelude.{◌≡◌, ◌<◌, ◌≤◌, Some, IfOk};
 ghost use Rattle.editions.specs.Folders.{IsLater};
-ghost use Rattle.editions.specs.Chains.{IsClearedAgainst};
-ghost use Rattle.edition_checks.specs.Served.{IfHeld, served_view};
-ghost use Rattle.edition_checks.specs.NextEditions.{IsFit, SaysFollows, IsNextEdition, IsEditionReached};
+ghost use Rattle.edition_checks.specs.Served.{IfHeld};
+ghost use Rattle.edition_checks.specs.NextEditions.{SaysFollows, IsNextEdition, IsEditionReached};
 
 use crate::following::{Following, may_follow};
-use crate::served::{Served, read_edition, read_text};
+use crate::served::{Served, ServedFault, read_edition, read_follows};
 use checker::{Verdict, check};
-use editions::{EditionFile, EditionFolder, follows_in};
+use editions::EditionFolder;
 use std::alloc::Global;
 
 /// Why an edition isn't reached from another.
@@ -23,21 +22,9 @@ pub enum ReachFault {
     Refused,
 }
 
-// What an edition follows.
-fn read_follows<F: EditionFolder>(
-    alloc: Global,
-    folder: &mut F,
-    number: u32,
-) -> Result<Option<u32>, ReachFault>
-    ensures later { IsLater (F.seen folder.old) (F.seen folder.new) }
-    ensures says { IfOk result (λ follows. IfHeld (F.seen folder.old) (λ f. SaysFollows f number follows)) }
-{
-    match read_text(alloc, folder, number, EditionFile::Follows) {
-        Ok(text) => match follows_in(text.as_slice()) {
-            Some(follows) => Ok(follows),
-            None => Err(ReachFault::Unread),
-        },
-        Err(_) => Err(ReachFault::Unread),
+impl From<ServedFault> for ReachFault {
+    fn from(_fault: ServedFault) -> ReachFault {
+        ReachFault::Unread
     }
 }
 
@@ -68,22 +55,7 @@ fn number_after<F: EditionFolder>(
     Err(ReachFault::OtherBeginning)
 }
 
-// The edition, if the check clears it by its own policy, and the change to it.
-fn judged(old: &Served, new: Served) -> Result<Served, ReachFault>
-    ensures same { IfOk result (λ s. s ≡ new) }
-    ensures fit { IfOk result IsFit }
-    ensures against { IfOk result (λ s. IsClearedAgainst (served_view None old.now) (served_view None s)) }
-{
-    if let Verdict::Refused(_) = check(&new.base, &new.policy, &new.cert) {
-        return Err(ReachFault::Refused);
-    }
-    match may_follow(old, &new.base, &new.cert, &new.policy) {
-        Following::Cleared => Ok(new),
-        Following::OtherGroups | Following::Refused(_) => Err(ReachFault::Refused),
-    }
-}
-
-// The edition that follows one, on the way to a later one.
+// The edition that follows one, on the way to a later one: the check clears it by its own policy, and the change to it.
 fn edition_after<F: EditionFolder>(
     alloc: Global,
     folder: &mut F,
@@ -95,9 +67,13 @@ fn edition_after<F: EditionFolder>(
     ensures within { IfOk result (λ new. (old.now.number < new.number) × (new.number ≤ to)) }
 {
     let number = number_after(alloc, folder, old.number, to)?;
-    match read_edition(alloc, folder, number) {
-        Ok(new) => judged(old, new),
-        Err(_) => Err(ReachFault::Unread),
+    let new = read_edition(alloc, folder, number)?;
+    if let Verdict::Refused(_) = check(&new.base, &new.policy, &new.cert) {
+        return Err(ReachFault::Refused);
+    }
+    match may_follow(old, &new.base, &new.cert, &new.policy) {
+        Following::Cleared => Ok(new),
+        Following::OtherGroups | Following::Refused(_) => Err(ReachFault::Refused),
     }
 }
 

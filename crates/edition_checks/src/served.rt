@@ -2,14 +2,14 @@
 
 ghost use Rattle.std.specs.Prelude.{◌≡◌, true, Ok, Some, IfOk, IfSome};
 ghost use Rattle.base_text.specs.Whole.{IsTextBase};
-ghost use Rattle.cert_text.specs.Grammar.{IsCertificateText};
 ghost use Rattle.policy_text.specs.Policies.{policy_in};
 ghost use Rattle.editions.specs.Folders.{IsLater, file_at};
 ghost use Rattle.edition_checks.specs.Served.{IsUnchanged, IfHeld, IsCertOf, HasCertText, IsReadEdition, IsServed};
+ghost use Rattle.edition_checks.specs.NextEditions.{SaysFollows};
 
 use cert_table::Certificate;
 use checker::{InputFault, Policy, base_of, cert_of};
-use editions::{EditionFile, EditionFolder, StoreFault};
+use editions::{EditionFile, EditionFolder, StoreFault, follows_in};
 use frame_records::Base;
 use policy_text::{PolicyFault, policy_read};
 use std::alloc::Global;
@@ -38,8 +38,17 @@ pub enum ServedFault {
     Memory,
 }
 
-// The text of a file, which has to be there.
-pub(crate) fn read_text<F: EditionFolder>(
+impl From<StoreFault> for ServedFault {
+    fn from(fault: StoreFault) -> ServedFault {
+        match fault {
+            StoreFault::Broken => ServedFault::Folder,
+            StoreFault::Memory => ServedFault::Memory,
+        }
+    }
+}
+
+/// The text of a file, which has to be there.
+pub fn read_text<F: EditionFolder>(
     alloc: Global,
     folder: &mut F,
     number: u32,
@@ -48,42 +57,23 @@ pub(crate) fn read_text<F: EditionFolder>(
     ensures later { IsLater (F.seen folder.old) (F.seen folder.new) }
     ensures there { IfOk result (λ text. IfHeld (F.seen folder.old) (λ f. file_at f number file ≡ Some text.items)) }
 {
-    match folder.read_file(alloc, number, file) {
-        Ok(Some(text)) => Ok(text),
-        Ok(None) => Err(ServedFault::Missing(file)),
-        Err(StoreFault::Broken) => Err(ServedFault::Folder),
-        Err(StoreFault::Memory) => Err(ServedFault::Memory),
+    match folder.read_file(alloc, number, file)? {
+        Some(text) => Ok(text),
+        None => Err(ServedFault::Missing(file)),
     }
 }
 
-fn base_in(alloc: Global, text: &[u8]) -> Result<Base, ServedFault>
-    ensures { IfOk result (IsTextBase text.now) }
+/// What an edition follows.
+pub fn read_follows<F: EditionFolder>(
+    alloc: Global,
+    folder: &mut F,
+    number: u32,
+) -> Result<Option<u32>, ServedFault>
+    ensures later { IsLater (F.seen folder.old) (F.seen folder.new) }
+    ensures says { IfOk result (λ follows. IfHeld (F.seen folder.old) (λ f. SaysFollows f number follows)) }
 {
-    match base_of(alloc, text) {
-        Ok(base) => Ok(base),
-        Err(InputFault::Memory) => Err(ServedFault::Memory),
-        Err(_) => Err(ServedFault::Unread(EditionFile::Base)),
-    }
-}
-
-fn cert_in(alloc: Global, text: &[u8]) -> Result<Certificate, ServedFault>
-    ensures { IfOk result (IsCertificateText text.now) }
-{
-    match cert_of(alloc, text) {
-        Ok(cert) => Ok(cert),
-        Err(InputFault::Memory) => Err(ServedFault::Memory),
-        Err(_) => Err(ServedFault::Unread(EditionFile::Cert)),
-    }
-}
-
-fn policy_of(alloc: Global, text: &[u8]) -> Result<Policy, ServedFault>
-    ensures { IfOk result (λ policy. policy_in text.now ≡ Ok policy) }
-{
-    match policy_read(alloc, text) {
-        Ok(policy) => Ok(policy),
-        Err(PolicyFault::Memory) => Err(ServedFault::Memory),
-        Err(_) => Err(ServedFault::Unread(EditionFile::Policy)),
-    }
+    let text = read_text(alloc, folder, number, EditionFile::Follows)?;
+    follows_in(text.as_slice()).ok_or(ServedFault::Unread(EditionFile::Follows))
 }
 
 // The base of an edition, with its text.
@@ -98,7 +88,11 @@ fn read_base<F: EditionFolder>(
     ensures is { IfOk result (λ read. IsTextBase read.0.items read.1) }
 {
     let text = read_text(alloc, folder, number, EditionFile::Base)?;
-    let base = base_in(alloc, text.as_slice())?;
+    let base = match base_of(alloc, text.as_slice()) {
+        Ok(base) => base,
+        Err(InputFault::Memory) => return Err(ServedFault::Memory),
+        Err(_) => return Err(ServedFault::Unread(EditionFile::Base)),
+    };
     Ok((text, base))
 }
 
@@ -114,7 +108,11 @@ fn read_cert<F: EditionFolder>(
     ensures is { IfOk result HasCertText }
 {
     let text = read_text(alloc, folder, number, EditionFile::Cert)?;
-    cert_in(alloc, text.as_slice())
+    match cert_of(alloc, text.as_slice()) {
+        Ok(cert) => Ok(cert),
+        Err(InputFault::Memory) => Err(ServedFault::Memory),
+        Err(_) => Err(ServedFault::Unread(EditionFile::Cert)),
+    }
 }
 
 // The policy of an edition, with its text.
@@ -129,11 +127,16 @@ fn read_policy<F: EditionFolder>(
     ensures is { IfOk result (λ read. policy_in read.0.items ≡ Ok read.1) }
 {
     let text = read_text(alloc, folder, number, EditionFile::Policy)?;
-    let policy = policy_of(alloc, text.as_slice())?;
+    let policy = match policy_read(alloc, text.as_slice()) {
+        Ok(policy) => policy,
+        Err(PolicyFault::Memory) => return Err(ServedFault::Memory),
+        Err(_) => return Err(ServedFault::Unread(EditionFile::Policy)),
+    };
     Ok((text, policy))
 }
 
 /// Reads an edition of a folder. Without the folder's lock others may publish meanwhile; an edition that is there stays as it is.
+#[tactic(auto, using(crate::proofs::FolderReads::later_then))]
 pub fn read_edition<F: EditionFolder>(
     alloc: Global,
     folder: &mut F,

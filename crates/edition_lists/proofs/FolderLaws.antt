@@ -9,10 +9,7 @@ use Rattle.cert_table.specs.Table.{CertView}
 use Rattle.cert_text.specs.Grammar.{IsCertificateText}
 use Rattle.cert_text.proofs.Only.{one_certificate}
 use Rattle.checker.specs.declared.policy.Policy.{Policy}
-use Rattle.checker.specs.declared.verdict.Verdict.TheVariants as verdicts
-use Rattle.checker.specs.declared.change.ChangeVerdict.TheVariants as changes
-use Rattle.checker.specs.Verdict.{verdict}
-use Rattle.checker.specs.Change.{Edition, change_verdict, IsSafeChange, IsSafeOverChanges}
+use Rattle.checker.specs.Change.{Edition, IsSafeChange, IsSafeOverChanges}
 use Rattle.checker.proofs.Editions.{safe_change}
 use Rattle.policy_text.specs.declared.fault.PolicyFault.{PolicyFault}
 use Rattle.policy_text.specs.Policies.{policy_in}
@@ -35,47 +32,23 @@ read_as p = Ok p
 same_ok : (p q : Policy) → read_as p ≡ read_as q → p ≡ q
 same_ok p q e = cc
 
-pub record IsSameMeaning (v w : EditionView) : Type 0 where
-  pub base : v.base ≡ w.base
-  pub cert : v.cert ≡ w.cert
-  pub policy : v.policy ≡ w.policy
-  pub follows : v.follows ≡ w.follows
+abbrev view_with : BaseView → CertView → Policy → Option ℕ → EditionView
+view_with base cert policy follows = record { base = base; cert = cert; policy = policy; follows = follows }
 
-pub one_meaning : (a b : EditionBytes) (v w : EditionView) → all_files a ≡ all_files b → IsEditionText a v → IsEditionText b w → IsSameMeaning v w
+same_view : (a b : BaseView) (c d : CertView) (p q : Policy) (j k : Option ℕ) → a ≡ b → c ≡ d → p ≡ q → j ≡ k → view_with a c p j ≡ view_with b d q k
+same_view a b c d p q j k base cert policy follows = cc
+
+one_meaning : (a b : EditionBytes) (v w : EditionView) → all_files a ≡ all_files b → IsEditionText a v → IsEditionText b w → v ≡ w
 one_meaning a b v w same is_v is_w =
     let base : a.base ≡ b.base = same_some a.base b.base (ap (λ (f : FilesSeen). f.base) same) in
     let cert : a.cert ≡ b.cert = same_some a.cert b.cert (ap (λ (f : FilesSeen). f.cert) same) in
     let policy : a.policy ≡ b.policy = same_some a.policy b.policy (ap (λ (f : FilesSeen). f.policy) same) in
     let follows : a.follows ≡ b.follows = same_some a.follows b.follows (ap (λ (f : FilesSeen). f.follows) same) in
-    record {
-      base = one_text_base b.base v.base w.base (subst (λ (t : List ℕ). IsTextBase t v.base) base is_v.of_base) is_w.of_base;
-      cert = one_certificate b.cert v.cert w.cert (subst (λ (t : List ℕ). IsCertificateText t v.cert) cert is_v.of_cert) is_w.of_cert;
-      policy = same_ok v.policy w.policy (sym is_v.of_policy ∙ ap policy_in policy ∙ is_w.of_policy);
-      follows = same_some v.follows w.follows (sym is_v.of_follows ∙ ap follows_in follows ∙ is_w.of_follows);
-    }
-
-cleared_by : (a b : BaseView) (c d : CertView) (p q : Policy) → a ≡ b → c ≡ d → p ≡ q → verdict a p c ≡ verdicts.Cleared → verdict b q d ≡ verdicts.Cleared
-cleared_by a b c d p q base cert policy h =
-    subst (λ (x : BaseView). verdict x q d ≡ verdicts.Cleared) base
-    (subst (λ (x : CertView). verdict a q x ≡ verdicts.Cleared) cert
-    (subst (λ (x : Policy). verdict a x c ≡ verdicts.Cleared) policy h))
-
-change_by : (a b : BaseView) (c d : CertView) (p q : Policy) (x y : BaseView) (s t : CertView) (m n : Policy) → a ≡ b → c ≡ d → p ≡ q → x ≡ y → s ≡ t → m ≡ n
-    → change_verdict (wider_of p m) a c x s ≡ changes.Cleared → change_verdict (wider_of q n) b d y t ≡ changes.Cleared
-change_by a b c d p q x y s t m n base cert policy new_base new_cert new_policy h =
-    subst (λ (z : BaseView). change_verdict (wider_of q n) z d y t ≡ changes.Cleared) base
-    (subst (λ (z : CertView). change_verdict (wider_of q n) a z y t ≡ changes.Cleared) cert
-    (subst (λ (z : BaseView). change_verdict (wider_of q n) a c z t ≡ changes.Cleared) new_base
-    (subst (λ (z : CertView). change_verdict (wider_of q n) a c x z ≡ changes.Cleared) new_cert
-    (subst (λ (z : Policy). change_verdict (wider_of z n) a c x s ≡ changes.Cleared) policy
-    (subst (λ (z : Policy). change_verdict (wider_of p z) a c x s ≡ changes.Cleared) new_policy h)))))
-
-against_by : (v w x y : EditionView) → IsSameMeaning v w → IsSameMeaning x y → IsClearedAgainst v x → IsClearedAgainst w y
-against_by v w x y old new h = record {
-  groups = sym (ap (λ (p : Policy). p.groups) new.policy) ∙ h.groups ∙ ap (λ (p : Policy). p.groups) old.policy;
-  change = change_by v.base w.base v.cert w.cert v.policy w.policy x.base y.base x.cert y.cert x.policy y.policy
-      old.base old.cert old.policy new.base new.cert new.policy h.change;
-}
+    same_view v.base w.base v.cert w.cert v.policy w.policy v.follows w.follows
+    (one_text_base b.base v.base w.base (subst (λ (t : List ℕ). IsTextBase t v.base) base is_v.of_base) is_w.of_base)
+    (one_certificate b.cert v.cert w.cert (subst (λ (t : List ℕ). IsCertificateText t v.cert) cert is_v.of_cert) is_w.of_cert)
+    (same_ok v.policy w.policy (sym is_v.of_policy ∙ ap policy_in policy ∙ is_w.of_policy))
+    (same_some v.follows w.follows (sym is_v.of_follows ∙ ap follows_in follows ∙ is_w.of_follows))
 
 -- Editions of a sound folder.
 
@@ -83,25 +56,23 @@ module _ (f : FolderState) (sound : IsSoundFolder f) where
   one : (follows : Option ℕ) (e : ChainedEdition) (is : IsInFolder f follows e) → IsSoundEdition f.editions e.number (all_files is.bytes)
   one follows e is = sound.each e.number (all_files is.bytes) is.there
 
-  its_meaning : (follows : Option ℕ) (e : ChainedEdition) (is : IsInFolder f follows e) → IsSameMeaning (one follows e is).view (chained_view follows e)
+  its_meaning : (follows : Option ℕ) (e : ChainedEdition) (is : IsInFolder f follows e) → (one follows e is).view ≡ chained_view follows e
   its_meaning follows e is =
       let s = one follows e is in
       one_meaning s.bytes is.bytes s.view (chained_view follows e) (sym s.whole) s.text is.text
 
   clear : (follows : Option ℕ) (e : ChainedEdition) → IsInFolder f follows e → IsClearedEdition (chained_view follows e)
-  clear follows e is =
-      let s = one follows e is in
-      let same = its_meaning follows e is in
-      cleared_by s.view.base e.edition.edition.base s.view.cert e.edition.edition.cert s.view.policy e.edition.policy same.base same.cert same.policy s.cleared
+  clear follows e is = subst IsClearedEdition (its_meaning follows e is) (one follows e is).cleared
 
   against : (follows : Option ℕ) (old new : ChainedEdition) → IsInFolder f follows old → IsInFolder f (Some old.number) new → IsClearedAgainst (chained_view follows old) (chained_view (Some old.number) new)
   against follows old new is_old is_new =
       let s = one (Some old.number) new is_new in
       let same = its_meaning (Some old.number) new is_new in
-      let followed : IsFollowed f.editions new.number s.view old.number = subst (λ (o : Option ℕ). IsFollowing f.editions new.number s.view o) same.follows s.following in
+      let followed : IsFollowed f.editions new.number s.view old.number = subst (λ (o : Option ℕ). IsFollowing f.editions new.number s.view o) (ap (λ (v : EditionView). v.follows) same) s.following in
       let files : all_files followed.bytes ≡ all_files is_old.bytes = same_some (all_files followed.bytes) (all_files is_old.bytes) (sym followed.there ∙ is_old.there) in
-      against_by followed.old (chained_view follows old) s.view (chained_view (Some old.number) new)
-      (one_meaning followed.bytes is_old.bytes followed.old (chained_view follows old) files followed.text is_old.text) same followed.against
+      subst (λ (v : EditionView). IsClearedAgainst v (chained_view (Some old.number) new))
+      (one_meaning followed.bytes is_old.bytes followed.old (chained_view follows old) files followed.text is_old.text)
+      (subst (λ (v : EditionView). IsClearedAgainst followed.old v) same followed.against)
 
 apart : (f : FolderState) (follows : Option ℕ) (e : ChainedEdition) → IsInFolder f follows e → AreApart e.edition.edition.base
 apart f follows e is = is.text.of_base.2.valid.apart

@@ -1,25 +1,20 @@
 -- Editions that are judged or listed in turn.
 use Rattle.std.proofs.Common.{◌≡◌, ◌<◌, ◌+◌, ◌++◌, ◌∷◌, [], ◌∙◌, ℕ, List, map, take, length, get_or, Option, Some, None, refl, sym, ap, subst}
-use Rattle.std.proofs.lemmas.List.Elements.{All-nil, All-push}
+use Rattle.std.proofs.lemmas.List.Elements.{All-push}
 use Rattle.std.proofs.lemmas.List.{take_more, map-append}
-use Rattle.std.specs.Prelude.{IfSome, Result, Ok, Err}
-use Rattle.devices.specs.Devices.{Seen}
+use Rattle.std.specs.Prelude.{IfSome}
 use Rattle.editions.specs.Folders.{FolderState, SeenFolder}
 use Rattle.edition_lists.specs.declared.finding.EditionFinding.{EditionFinding}
 use Rattle.edition_lists.specs.declared.judging.JudgedEdition.{JudgedEdition}
 use Rattle.edition_lists.specs.declared.judging.JudgedEdition.TheVariants.{Right, Wrong}
 use Rattle.edition_lists.specs.declared.kept.KeptEdition.{KeptEdition}
 use Rattle.edition_lists.specs.declared.rows.EditionRow.{EditionRow}
-use Rattle.edition_lists.specs.declared.fault.EditionsFault.{EditionsFault}
-use Rattle.edition_lists.specs.declared.fault.EditionsFault.TheVariants.{Folder, Write}
-use Rattle.edition_lists.specs.declared.status.EditionsStatus.{EditionsStatus}
 use Rattle.edition_lists.specs.Kept.{IsKeptEdition}
 use Rattle.edition_lists.specs.Judged.{IsJudgedRight, IsRightNumber}
 use Rattle.edition_lists.specs.Findings.{IsEditionFinding, AreFindings}
 use Rattle.edition_lists.specs.Rows.{IsRowOf, IsRowIn, AreEditionRows}
-use Rattle.edition_lists.specs.Runs.{IsRun}
-use Rattle.edition_lists.specs.Loops.{IfRight, IsRightNow, IsKeptBefore, finding_with, kept_if_right, AddsRow, IsSaid}
-use Rattle.edition_lists.proofs.KeptReads.{held_too}
+use Rattle.edition_lists.specs.Loops.{IfRight, IsRightNow, IsKeptBefore, finding_with, kept_if_right, AddsRow}
+use Rattle.edition_checks.proofs.FolderReads.{before}
 
 -- the numbers of a list with one more
 named_more : {X : Type 0} (number : X → ℕ) (xs : List X) (x : X) (numbers : List ℕ) (i d n : ℕ) → i < length numbers → n ≡ get_or numbers i d → number x ≡ n → map number xs ≡ take i numbers
@@ -32,14 +27,10 @@ named_more number xs x numbers i d n below is named so_far =
 
 -- Findings.
 
-pub none_found : (o : Option FolderState) (numbers : List ℕ) (served : Option ℕ) → IfSome o (λ f. AreFindings f numbers served (take 0 numbers) [])
-none_found None numbers served = tt
-none_found (Some f) numbers served = record { named = refl; are = All-nil (IsEditionFinding f numbers served) }
-
 -- the edition that was judged last
 pub kept_after : (a b : SeenFolder) (numbers : List ℕ) (served : Option ℕ) (n : ℕ) (j : JudgedEdition) → b.state ≡ a.state → IfRight j (IsRightNow a numbers served n) → IsKeptBefore b (kept_if_right j)
 kept_after a b numbers served n (Wrong flaw) same right = tt
-kept_after a b numbers served n (Right e) same right = held_too b.state a.state (λ f. IsKeptEdition f e) (sym same) right.kept
+kept_after a b numbers served n (Right e) same right = before b.state a.state (λ f. IsKeptEdition f e) (sym same) right.kept
 
 right_now : (o : Option FolderState) (numbers : List ℕ) (served : Option ℕ) (n : ℕ) (e : KeptEdition) → e.served.number ≡ n → IfSome o (λ f. IsKeptEdition f e) → IfSome o (λ f. IsJudgedRight f numbers served e)
     → IfSome o (λ f. IsRightNumber f numbers served n e.follows)
@@ -53,7 +44,7 @@ nothing_said (Some f) = tt
 finding_now : (o : Option FolderState) (a : SeenFolder) (numbers : List ℕ) (served : Option ℕ) (n : ℕ) (j : JudgedEdition) → a.state ≡ o → IfRight j (IsRightNow a numbers served n) → IfSome o (λ f. IsEditionFinding f numbers served (finding_with n j))
 finding_now o a numbers served n (Wrong flaw) same right = nothing_said o
 finding_now o a numbers served n (Right e) same right =
-    right_now o numbers served n e right.named (held_too o a.state (λ f. IsKeptEdition f e) same right.kept) (held_too o a.state (λ f. IsJudgedRight f numbers served e) same right.right)
+    right_now o numbers served n e right.named (before o a.state (λ f. IsKeptEdition f e) same right.kept) (before o a.state (λ f. IsJudgedRight f numbers served e) same right.right)
 
 more_found : (o : Option FolderState) (numbers : List ℕ) (served : Option ℕ) (i d n : ℕ) (findings : List EditionFinding) (x : EditionFinding) → i < length numbers → n ≡ get_or numbers i d → x.number ≡ n
     → IfSome o (λ f. AreFindings f numbers served (take i numbers) findings) → IfSome o (λ f. IsEditionFinding f numbers served x)
@@ -73,10 +64,6 @@ found_more o a numbers served i d n findings new j same below is so_far right ad
     (more_found o numbers served i d n findings (finding_with n j) below is refl so_far (finding_now o a numbers served n j same right))
 
 -- Rows.
-
-pub none_listed : (o : Option FolderState) (numbers : List ℕ) (served : Option ℕ) → IfSome o (λ f. AreEditionRows f numbers served (take 0 numbers) [])
-none_listed None numbers served = tt
-none_listed (Some f) numbers served = record { named = refl; are = All-nil (IsRowIn f numbers served) }
 
 row_now : (o : Option FolderState) (numbers : List ℕ) (served : Option ℕ) (e : KeptEdition) (row : EditionRow) → IfSome o (λ f. IsKeptEdition f e) → IsRowOf numbers served e row → IfSome o (λ f. IsRowIn f numbers served row)
 row_now None numbers served e row kept is = tt
@@ -98,11 +85,4 @@ pub listed_more : (o p : Option FolderState) (numbers : List ℕ) (served : Opti
 listed_more o p numbers served i d n rows new e same below is so_far kept named adds =
     subst (λ (xs : List EditionRow). IfSome o (λ f. AreEditionRows f numbers served (take (i + 1) numbers) xs)) (sym adds.added)
     (more_listed o numbers served i d n rows adds.row below is (adds.is.number ∙ named) so_far
-    (row_now o numbers served e adds.row (held_too o p (λ f. IsKeptEdition f e) same kept) adds.is))
-
--- Runs.
-
-pub run_of : (Is : List ℕ → EditionsStatus → Type 0) (old new : Seen) (text : List ℕ) (status : EditionsStatus) (r : Result EditionsStatus EditionsFault) → Is text status → IsSaid old new text status r → IsRun Is old new r
-run_of Is old new text status (Ok s) is said = record { text = text; is = subst (λ (t : EditionsStatus). Is text t) (sym said.1) is; wrote = said.0 }
-run_of Is old new text status (Err (Write count)) is said = record { text = text; status = status; is = is; wrote = said }
-run_of Is old new text status (Err (Folder fault)) is said = absurd said
+    (row_now o numbers served e adds.row (before o p (λ f. IsKeptEdition f e) same kept) adds.is))

@@ -45,10 +45,6 @@ rises : (last n : ℕ) (o : Option ℕ) → last ≤ n → last ≤ last_after l
 rises last n None le = omega arith
 rises last n (Some k) le = le
 
-from_less : (m n : ℕ) (xs : List EditionFinding) → m ≤ n → AreFrom n xs → AreFrom m xs
-from_less m n [] le from = tt
-from_less m n (x ∷ xs) le from = (omega (arith, le, from.0), from_less m n xs le from.1)
-
 from_after : (last n : ℕ) (o : Option ℕ) (xs : List EditionFinding) → AreFrom last xs → AreFrom n xs → AreFrom (last_after last n o) xs
 from_after last n None xs a b = a
 from_after last n (Some k) xs a b = b

@@ -30,10 +30,10 @@ use Rattle.edition_lists.specs.declared.forks.Fork.{Fork}
 use Rattle.edition_lists.specs.Forks.{followed, first_fork}
 use Rattle.edition_lists.specs.Currents.{is_among, found_by, found_current, served_of}
 use Rattle.edition_lists.specs.Findings.{is_right_note, is_right, IsEditionNote, IsEditionFinding, is_right_current, is_all_right, verify_status, AreFindings, IsFoundIn}
-use Rattle.edition_lists.specs.Runs.{IsVerification, IsRun}
+use Rattle.edition_lists.specs.Runs.{IsVerification}
 use Rattle.edition_lists.specs.Judged.{kept_view, HasItsSums, IsFollowingKept, IsWithinNumbers, IsJudgedRight, IsRightNumber, AreNumbersOf}
 use Rattle.edition_lists.specs.FolderChains.{AreChainsSafe}
-use Rattle.edition_lists.specs.Loops.{IsRightEdition}
+use Rattle.edition_lists.specs.Loops.{IsRightEdition, IsSaid}
 use Rattle.edition_lists.proofs.FolderLaws.{same_some, folders_safe}
 use Rattle.edition_lists.proofs.NoForks.{Has, straight, ascending, from_zero}
 
@@ -305,8 +305,7 @@ safe_in None verified = tt
 safe_in (Some f) verified = folders_safe.changes f verified.sound
 
 -- the same of what a run answers
-pub verified_run : (seen : SeenFolder) (folder : List ℕ) (old new : Seen) (r : Result EditionsStatus EditionsFault) → IsRun (IsVerification seen folder) old new r → r ≡ Ok Cleared → IfSome seen.state IsVerifiedFolder
-verified_run seen folder old new (Err e) run is = absurd cc
-verified_run seen folder old new (Ok s) run is =
-    let v = run.is in
-    verified_in seen.state v.numbers v.current v.findings v.found (sym v.said.status_is ∙ same_status s Cleared is)
+pub verified_run : (seen : SeenFolder) (folder text : List ℕ) (status : EditionsStatus) (old new : Seen) (r : Result EditionsStatus EditionsFault) → IsVerification seen folder text status → IsSaid old new text status r → r ≡ Ok Cleared
+    → IfSome seen.state IsVerifiedFolder
+verified_run seen folder text status old new (Err e) v said is = absurd cc
+verified_run seen folder text status old new (Ok s) v said is = verified_in seen.state v.numbers v.current v.findings v.found (sym v.said.status_is ∙ sym said.1 ∙ same_status s Cleared is)

@@ -9,12 +9,9 @@ use Rattle.edition_lists.specs.declared.current.FoundCurrent.TheVariants.{Nothin
 abbrev pub is_among : List ℕ → ℕ → Bool
 is_among numbers n = list_any (λ m. nat_eq m n) numbers
 
-abbrev pub found_among : List ℕ → ℕ → FoundCurrent
-found_among numbers n = if is_among numbers n then Edition n else Lacking n
-
 abbrev pub found_by : List ℕ → Option ℕ → FoundCurrent
 found_by numbers None = Unread
-found_by numbers (Some n) = found_among numbers n
+found_by numbers (Some n) = if is_among numbers n then Edition n else Lacking n
 
 abbrev pub found_by_text : List ℕ → List ℕ → FoundCurrent
 found_by_text numbers text = found_by numbers (current_in text)

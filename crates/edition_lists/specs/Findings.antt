@@ -7,7 +7,6 @@ use Rattle.edition_lists.specs.declared.current.FoundCurrent.TheVariants.{Nothin
 use Rattle.edition_lists.specs.declared.finding.EditionFinding.{EditionFinding}
 use Rattle.edition_lists.specs.declared.finding.EditionNote.{EditionNote}
 use Rattle.edition_lists.specs.declared.finding.EditionNote.TheVariants as note
-use Rattle.edition_lists.specs.declared.judging.JudgedEdition.TheVariants as judged
 use Rattle.edition_lists.specs.declared.status.EditionsStatus.{EditionsStatus}
 use Rattle.edition_lists.specs.declared.status.EditionsStatus.TheVariants.{Cleared, Refused}
 use Rattle.edition_lists.specs.Currents.{found_current, served_of}

@@ -30,17 +30,14 @@ abbrev pub lack_words : Option ℕ → List ℕ
 lack_words None = codes "\n"
 lack_words (Some k) = codes ", edition " ++ (decimal k ++ codes " isn't there\n")
 
--- the number, and whether it is served
-abbrev pub row_head : ℕ → EditionRow → List ℕ
-row_head width row = codes "edition " ++ (set_right width (decimal row.number) ++ serving_words row.serving)
-
 -- what it follows, its frames, and what changed
 abbrev pub row_rest : ℕ → EditionRow → List ℕ
 row_rest width row =
     codes "  follows " ++ (set_right width (follows_words row.follows) ++ (codes "  " ++ (row.summary.items ++ lack_words row.lacks)))
 
+-- the number, whether it is served, and the rest
 abbrev pub edition_line : ℕ → EditionRow → List ℕ
-edition_line width row = row_head width row ++ row_rest width row
+edition_line width row = codes "edition " ++ (set_right width (decimal row.number) ++ (serving_words row.serving ++ row_rest width row))
 
 -- a line for each row
 abbrev pub rows_lines : ℕ → List EditionRow → List ℕ

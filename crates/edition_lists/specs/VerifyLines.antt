@@ -1,7 +1,5 @@
 -- What `editions --verify` prints.
 use Rattle.std.specs.Prelude.{ℕ, List, [], ◌++◌, codes, decimal, length, ◌==◌, if◌then◌else◌, Option, Some, None, flat_map}
-use Rattle.checker.specs.declared.verdict.Verdict.{Verdict}
-use Rattle.checker.specs.declared.change.ChangeVerdict.{ChangeVerdict}
 use Rattle.audit_report.specs.Lines.{verdict_text, change_text}
 use Rattle.editions.specs.declared.edition_file.EditionFile.{EditionFile}
 use Rattle.editions.specs.declared.edition_file.EditionFile.TheVariants as file
@@ -21,39 +19,29 @@ use Rattle.edition_lists.specs.declared.forks.Fork.{Fork}
 use Rattle.edition_lists.specs.Servings.{serving_of}
 use Rattle.edition_lists.specs.Forks.{first_fork}
 
--- the path of an edition's folder
-abbrev pub folder_words : List ℕ → ℕ → List ℕ
-folder_words folder n = folder ++ (codes "/editions/" ++ (decimal n ++ codes "/"))
-
--- a file of it
+-- the path of a file of an edition
 abbrev pub file_words : List ℕ → ℕ → EditionFile → List ℕ
-file_words folder n f = folder_words folder n ++ (file_name f ++ codes ": ")
+file_words folder n f = folder ++ (codes "/editions/" ++ (decimal n ++ (codes "/" ++ (file_name f ++ codes ": "))))
 
 abbrev pub sum_words : EditionFile → List ℕ
 sum_words file.Sums = codes "it lacks the sums of the other four files\n"
 sum_words _ = codes "it was changed: its sum isn't the one in SHA256SUMS\n"
 
-abbrev pub refused_line : List ℕ → ℕ → Verdict → List ℕ
-refused_line folder n v = file_words folder n file.Cert ++ verdict_text v
-
 -- what is said of what an edition follows
 abbrev pub follows_line : ℕ → ℕ → List ℕ → List ℕ
 follows_line n k words = codes "edition " ++ (decimal n ++ (codes " follows " ++ (decimal k ++ words)))
-
-abbrev pub change_line : ℕ → ℕ → ChangeVerdict → List ℕ
-change_line n k v = follows_line n k (codes ": ") ++ change_text v
 
 -- what is wrong with the edition of a number
 abbrev pub flaw_line : List ℕ → ℕ → EditionFlaw → List ℕ
 flaw_line folder n (flaw.Missing f) = file_words folder n f ++ codes "no such file\n"
 flaw_line folder n (flaw.Unread f) = file_words folder n f ++ codes "it isn't what was published\n"
 flaw_line folder n (flaw.Sum f) = file_words folder n f ++ sum_words f
-flaw_line folder n (flaw.Refused v) = refused_line folder n v
+flaw_line folder n (flaw.Refused v) = file_words folder n file.Cert ++ verdict_text v
 flaw_line folder n (flaw.FollowsNone k) = follows_line n k (codes ", which isn't there\n")
 flaw_line folder n (flaw.FollowsLater k) = follows_line n k (codes ", which isn't before it\n")
 flaw_line folder n (flaw.FollowsWrong k) = follows_line n k (codes ", which isn't what was published\n")
 flaw_line folder n (flaw.OtherGroups k) = follows_line n k (codes ", and its policy has other groups\n")
-flaw_line folder n (flaw.ChangeRefused k v) = change_line n k v
+flaw_line folder n (flaw.ChangeRefused k v) = follows_line n k (codes ": ") ++ change_text v
 flaw_line folder n (flaw.Passed k) = follows_line n k (codes ", and is after the one that is served\n")
 
 -- a right edition that isn't served yet
@@ -76,19 +64,13 @@ abbrev pub findings_text : List ℕ → Option ℕ → List EditionFinding → L
 findings_text folder served findings = flat_map (finding_line folder served) findings
 
 -- the first edition that doesn't follow the one before it in its chain
-abbrev pub between_line : Fork → List ℕ
-between_line fork = follows_line fork.number fork.follows [] ++ (codes ", but edition " ++ (decimal fork.between ++ codes " comes between them\n"))
-
 abbrev pub fork_line : Option Fork → List ℕ
 fork_line None = []
-fork_line (Some fork) = between_line fork
-
-abbrev pub lacking_line : List ℕ → ℕ → List ℕ
-lacking_line folder n = folder ++ (codes "/current: edition " ++ (decimal n ++ codes " isn't there\n"))
+fork_line (Some fork) = follows_line fork.number fork.follows [] ++ (codes ", but edition " ++ (decimal fork.between ++ codes " comes between them\n"))
 
 -- what is wrong with `current`
 abbrev pub current_line : List ℕ → FoundCurrent → List ℕ
-current_line folder (current.Lacking n) = lacking_line folder n
+current_line folder (current.Lacking n) = folder ++ (codes "/current: edition " ++ (decimal n ++ codes " isn't there\n"))
 current_line folder current.Unread = folder ++ codes "/current: has to hold an edition's number and a line end\n"
 current_line folder c = []
 
@@ -104,10 +86,6 @@ served_words (current.Edition n) = number_words n
 served_words (current.Lacking n) = number_words n
 served_words current.Unread = codes "\n"
 
--- how many editions there are, and which is served
-abbrev pub counts_line : ℕ → FoundCurrent → List ℕ
-counts_line count c = count_words count ++ served_words c
-
 abbrev pub status_line : EditionsStatus → List ℕ
 status_line status.Listed = []
 status_line status.Cleared = codes "CLEARED\n"
@@ -117,4 +95,4 @@ status_line status.Refused = codes "REFUSED\n"
 abbrev pub verify_text : List ℕ → FoundCurrent → Option ℕ → List EditionFinding → EditionsStatus → List ℕ
 verify_text folder c served findings s =
     current_line folder c
-    ++ (findings_text folder served findings ++ (fork_line (first_fork 0 findings) ++ (counts_line (length findings) c ++ status_line s)))
+    ++ (findings_text folder served findings ++ (fork_line (first_fork 0 findings) ++ (count_words (length findings) ++ (served_words c ++ status_line s))))

@@ -4,7 +4,7 @@ ghost use Rattle.std.specs.Prelude.{◌≡◌, true, IfOk, IfSome};
 ghost use Rattle.edition_checks.specs.Served.{IsUnchanged};
 ghost use Rattle.edition_lists.specs.Currents as spec;
 
-use crate::fault::{FolderFault, folder_fault};
+use crate::fault::FolderFault;
 use editions::{EditionFolder, current_in};
 use std::alloc::Global;
 
@@ -33,21 +33,12 @@ pub fn served_of(current: FoundCurrent, numbers: &[u32]) -> Option<u32>
     }
 }
 
-fn found_among(numbers: &[u32], number: u32) -> FoundCurrent
-    ensures { result ≡ spec.found_among numbers.now number }
-{
-    if numbers.contains(&number) {
-        FoundCurrent::Edition(number)
-    } else {
-        FoundCurrent::Lacking(number)
-    }
-}
-
 fn found_by_text(numbers: &[u32], text: &[u8]) -> FoundCurrent
     ensures { result ≡ spec.found_by_text numbers.now text.now }
 {
     match current_in(text) {
-        Some(number) => found_among(numbers, number),
+        Some(number) if numbers.contains(&number) => FoundCurrent::Edition(number),
+        Some(number) => FoundCurrent::Lacking(number),
         None => FoundCurrent::Unread,
     }
 }
@@ -63,9 +54,8 @@ pub fn read_current<F: EditionFolder>(
     ensures found { IfOk result (λ current. IfSome (F.seen folder.old).state
         (λ f. current ≡ spec.found_current numbers.now f.current)) }
 {
-    match folder.read_current(alloc) {
-        Ok(Some(text)) => Ok(found_by_text(numbers, text.as_slice())),
-        Ok(None) => Ok(FoundCurrent::Nothing),
-        Err(fault) => Err(folder_fault(fault)),
+    match folder.read_current(alloc)? {
+        Some(text) => Ok(found_by_text(numbers, text.as_slice())),
+        None => Ok(FoundCurrent::Nothing),
     }
 }

@@ -1,6 +1,7 @@
 use checker::{ChangeVerdict, Verdict};
 use edition_checks::ServedFault;
 use editions::{EditionFile, StoreFault};
+use std::alloc::AllocError;
 use thiserror::Error;
 
 /// Why a folder isn't read to its last edition.
@@ -21,6 +22,21 @@ pub enum FolderFault {
     /// A growth was refused.
     #[error("memory refused")]
     Memory,
+}
+
+impl From<StoreFault> for FolderFault {
+    fn from(fault: StoreFault) -> FolderFault {
+        match fault {
+            StoreFault::Broken => FolderFault::Broken,
+            StoreFault::Memory => FolderFault::Memory,
+        }
+    }
+}
+
+impl From<AllocError> for FolderFault {
+    fn from(_e: AllocError) -> FolderFault {
+        FolderFault::Memory
+    }
 }
 
 /// Why a run ends without its work done.
@@ -67,12 +83,5 @@ pub(crate) fn kept_fault(number: u32, fault: ServedFault) -> FolderFault {
         ServedFault::Unread(file) => FolderFault::Unread(number, file),
         ServedFault::Folder => FolderFault::Broken,
         ServedFault::Memory => FolderFault::Memory,
-    }
-}
-
-pub(crate) fn folder_fault(fault: StoreFault) -> FolderFault {
-    match fault {
-        StoreFault::Broken => FolderFault::Broken,
-        StoreFault::Memory => FolderFault::Memory,
     }
 }

@@ -32,22 +32,14 @@ pub fn note_of(judged: &JudgedEdition) -> EditionNote
     }
 }
 
-fn is_right(finding: &EditionFinding) -> bool
-    ensures { result ≡ is_right finding.now }
-{
-    match &finding.note {
-        EditionNote::Right(_) => true,
-        EditionNote::Wrong(_) => false,
-    }
-}
-
 /// Whether all editions are right.
 pub fn are_right(findings: &[EditionFinding]) -> bool
     ensures { result ≡ list_all is_right findings.now }
 {
     for finding in findings {
-        if !is_right(finding) {
-            return false;
+        match &finding.note {
+            EditionNote::Right(_) => {}
+            EditionNote::Wrong(_) => return false,
         }
     }
     true

@@ -27,27 +27,6 @@ fn refused_change(old: &KeptEdition, new: &KeptEdition) -> Option<EditionFlaw>
     }
 }
 
-// What is wrong with the change from an edition that isn't kept.
-fn change_from<F: EditionFolder>(
-    alloc: Global,
-    folder: &mut F,
-    edition: &KeptEdition,
-    number: u32,
-) -> Result<Option<EditionFlaw>, FolderFault>
-    requires held { (F.seen folder.old).held ≡ true }
-    requires before { number < edition.now.served.number }
-    ensures unchanged { IsUnchanged (F.seen folder.old) (F.seen folder.new) }
-    ensures after { IfOk result (λ o. o ≡ None → IfSome (F.seen folder.old).state
-        (λ f. IsAfterKept f edition.now number)) }
-{
-    match read_kept(alloc, folder, number) {
-        Ok(old) => Ok(refused_change(&old, edition)),
-        Err(ServedFault::Folder) => Err(FolderFault::Broken),
-        Err(ServedFault::Memory) => Err(FolderFault::Memory),
-        Err(_) => Ok(Some(EditionFlaw::FollowsWrong(number))),
-    }
-}
-
 // What is wrong with the change from an edition: the one that was read before, or another one.
 fn change_after<F: EditionFolder>(
     alloc: Global,
@@ -65,7 +44,12 @@ fn change_after<F: EditionFolder>(
 {
     match before {
         Some(old) if old.served.number == number => Ok(refused_change(old, edition)),
-        _ => change_from(alloc, folder, edition, number),
+        _ => match read_kept(alloc, folder, number) {
+            Ok(old) => Ok(refused_change(&old, edition)),
+            Err(ServedFault::Folder) => Err(FolderFault::Broken),
+            Err(ServedFault::Memory) => Err(FolderFault::Memory),
+            Err(_) => Ok(Some(EditionFlaw::FollowsWrong(number))),
+        },
     }
 }
 

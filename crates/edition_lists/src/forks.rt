@@ -23,29 +23,6 @@ fn followed(finding: &EditionFinding) -> Option<u32>
     }
 }
 
-// `last` is the last edition before this one that follows another, or 0.
-fn fork_after(last: u32, number: u32, follows: Option<u32>) -> Option<Fork>
-    ensures { result ≡ spec.fork_after last number follows }
-{
-    match follows {
-        Some(follows) if follows < last => Some(Fork {
-            number,
-            follows,
-            between: last,
-        }),
-        _ => None,
-    }
-}
-
-fn last_after(last: u32, number: u32, follows: Option<u32>) -> u32
-    ensures { result ≡ spec.last_after last number follows }
-{
-    match follows {
-        Some(_) => number,
-        None => last,
-    }
-}
-
 /// The first right edition that doesn't follow the one before it in its chain, by findings in the order of their
 /// numbers.
 pub fn first_fork(findings: &[EditionFinding]) -> Option<Fork>
@@ -53,12 +30,17 @@ pub fn first_fork(findings: &[EditionFinding]) -> Option<Fork>
 {
     let mut last = 0;
     for finding in findings {
-        let follows = followed(finding);
-        let fork = fork_after(last, finding.number, follows);
-        if fork.is_some() {
-            return fork;
+        let Some(follows) = followed(finding) else {
+            continue;
+        };
+        if follows < last {
+            return Some(Fork {
+                number: finding.number,
+                follows,
+                between: last,
+            });
         }
-        last = last_after(last, finding.number, follows);
+        last = finding.number;
     }
     None
 }

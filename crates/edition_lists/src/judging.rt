@@ -2,8 +2,7 @@
 
 ghost use Rattle.std.specs.Prelude.{◌≡◌, true, None, IfOk, IfSome};
 ghost use Rattle.edition_checks.specs.Served.{IsUnchanged};
-ghost use Rattle.edition_lists.specs.Kept.{IsKeptEdition};
-ghost use Rattle.edition_lists.specs.Judged.{IsFollowingKept, IsWithinNumbers, IsJudgedRight};
+ghost use Rattle.edition_lists.specs.Judged.{IsJudgedRight};
 ghost use Rattle.edition_lists.specs.Loops.{IsKeptBefore, IfRight, IsRightNow};
 
 use crate::fault::{EditionFlaw, FolderFault};
@@ -21,30 +20,7 @@ pub enum JudgedEdition {
     Wrong(EditionFlaw),
 }
 
-// What is wrong with an edition beside others.
-fn place_fault<F: EditionFolder>(
-    alloc: Global,
-    folder: &mut F,
-    numbers: &[u32],
-    current: Option<u32>,
-    edition: &KeptEdition,
-    before: &Option<KeptEdition>,
-) -> Result<Option<EditionFlaw>, FolderFault>
-    requires held { (F.seen folder.old).held ≡ true }
-    requires kept { IsKeptBefore (F.seen folder.old) before.now }
-    ensures unchanged { IsUnchanged (F.seen folder.old) (F.seen folder.new) }
-    ensures follows { IfOk result (λ o. o ≡ None → IfSome (F.seen folder.old).state
-        (λ f. IsFollowingKept f edition.now edition.now.follows)) }
-    ensures within { IfOk result (λ o. o ≡ None →
-        IsWithinNumbers numbers.now current edition.now.served.number edition.now.follows) }
-{
-    match follows_fault(alloc, folder, numbers, edition, before)? {
-        None => Ok(passed_fault(numbers, current, edition)),
-        Some(fault) => Ok(Some(fault)),
-    }
-}
-
-// What is wrong with an edition.
+// What is wrong with an edition, by itself or beside others.
 fn edition_fault<F: EditionFolder>(
     alloc: Global,
     folder: &mut F,
@@ -59,32 +35,13 @@ fn edition_fault<F: EditionFolder>(
     ensures right { IfOk result (λ o. o ≡ None → IfSome (F.seen folder.old).state
         (λ f. IsJudgedRight f numbers.now current edition.now)) }
 {
-    match own_fault(alloc, folder, edition)? {
-        None => place_fault(alloc, folder, numbers, current, edition, before),
-        Some(fault) => Ok(Some(fault)),
+    if let Some(fault) = own_fault(alloc, folder, edition)? {
+        return Ok(Some(fault));
     }
-}
-
-// An edition that was read is judged.
-fn judge_kept<F: EditionFolder>(
-    alloc: Global,
-    folder: &mut F,
-    numbers: &[u32],
-    current: Option<u32>,
-    edition: KeptEdition,
-    before: &Option<KeptEdition>,
-) -> Result<JudgedEdition, FolderFault>
-    requires held { (F.seen folder.old).held ≡ true }
-    requires read { IfSome (F.seen folder.old).state (λ f. IsKeptEdition f edition) }
-    requires kept { IsKeptBefore (F.seen folder.old) before.now }
-    ensures unchanged { IsUnchanged (F.seen folder.old) (F.seen folder.new) }
-    ensures right { IfOk result (λ j. IfRight j (IsRightNow (F.seen folder.old) numbers.now current
-        edition.served.number)) }
-{
-    match edition_fault(alloc, folder, numbers, current, &edition, before)? {
-        None => Ok(JudgedEdition::Right(edition)),
-        Some(fault) => Ok(JudgedEdition::Wrong(fault)),
+    if let Some(fault) = follows_fault(alloc, folder, numbers, edition, before)? {
+        return Ok(Some(fault));
     }
+    Ok(passed_fault(numbers, current, edition))
 }
 
 // What is wrong with an edition that doesn't read.
@@ -112,11 +69,12 @@ pub fn judge_edition<F: EditionFolder>(
     ensures unchanged { IsUnchanged (F.seen folder.old) (F.seen folder.new) }
     ensures right { IfOk result (λ j. IfRight j (IsRightNow (F.seen folder.old) numbers.now current number)) }
 {
-    match read_kept(alloc, folder, number) {
-        Ok(edition) => judge_kept(alloc, folder, numbers, current, edition, before),
-        Err(fault) => match unread(fault) {
-            Ok(wrong) => Ok(JudgedEdition::Wrong(wrong)),
-            Err(fault) => Err(fault),
-        },
+    let edition = match read_kept(alloc, folder, number) {
+        Ok(edition) => edition,
+        Err(fault) => return Ok(JudgedEdition::Wrong(unread(fault)?)),
+    };
+    match edition_fault(alloc, folder, numbers, current, &edition, before)? {
+        None => Ok(JudgedEdition::Right(edition)),
+        Some(fault) => Ok(JudgedEdition::Wrong(fault)),
     }
 }

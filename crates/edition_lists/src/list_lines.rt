@@ -1,6 +1,6 @@
 //! The lines of a list of editions, in columns.
 
-ghost use Rattle.std.specs.Prelude.{◌≡◌, ◌++◌, ◌-◌, [], IfOk, OnOk, length, decimal, replicate};
+ghost use Rattle.std.specs.Prelude.{◌≡◌, ◌++◌, ◌-◌, [], IfOk, OnOk, decimal, replicate};
 ghost use Rattle.edition_lists.specs.ListLines as spec;
 
 use crate::numbered::push_numbered;
@@ -33,20 +33,14 @@ fn push_number_right(out: &mut Vec<u8>, width: usize, number: u32) -> Result<(),
     push_right(out, width, digits)
 }
 
-fn digits_of(number: u32) -> usize
-    ensures { result ≡ length (decimal number) }
-{
-    let mut buffer = Buffer::new();
-    buffer.format(number).len()
-}
-
 // The width of the longest number.
 fn number_width(numbers: &[u32]) -> usize
     ensures { result ≡ spec.number_width numbers.now }
 {
     let mut most = 0;
     for number in numbers {
-        most = most.max(digits_of(*number));
+        let mut buffer = Buffer::new();
+        most = most.max(buffer.format(*number).len());
     }
     most
 }
@@ -60,14 +54,6 @@ fn serving_words(serving: Serving) -> &'static [u8]
         Serving::NotYet => b"  not yet".as_slice(),
         Serving::Never => b"  never  ".as_slice(),
     }
-}
-
-fn push_head(out: &mut Vec<u8>, width: usize, row: &EditionRow) -> Result<(), AllocError>
-    ensures { OnOk result (out.new.items ≡ out.old.items ++ spec.row_head width row.now) }
-{
-    out.extend_from_slice(b"edition ")?;
-    push_number_right(out, width, row.number)?;
-    out.extend_from_slice(serving_words(row.serving))
 }
 
 fn push_followed(out: &mut Vec<u8>, width: usize, follows: Option<u32>) -> Result<(), AllocError>
@@ -101,7 +87,9 @@ fn push_rest(out: &mut Vec<u8>, width: usize, row: &EditionRow) -> Result<(), Al
 fn push_line(out: &mut Vec<u8>, width: usize, row: &EditionRow) -> Result<(), AllocError>
     ensures { OnOk result (out.new.items ≡ out.old.items ++ spec.edition_line width row.now) }
 {
-    push_head(out, width, row)?;
+    out.extend_from_slice(b"edition ")?;
+    push_number_right(out, width, row.number)?;
+    out.extend_from_slice(serving_words(row.serving))?;
     push_rest(out, width, row)
 }
 

@@ -6,7 +6,6 @@ ghost use Rattle.edition_lists.specs.Kept.{IsKeptEdition};
 ghost use Rattle.edition_lists.specs.Judged.{AreNumbersOf};
 ghost use Rattle.edition_lists.specs.Currents.{served_of};
 ghost use Rattle.edition_lists.specs.Rows.{IsRowOf, AreEditionRows, AreListedIn, is_read};
-ghost use Rattle.edition_lists.specs.ListLines as lines;
 ghost use Rattle.edition_lists.specs.Runs.{IsEditionsText, IsRun};
 ghost use Rattle.edition_lists.specs.Loops.{AddsRow};
 
@@ -33,10 +32,7 @@ fn read_one<S: EditionStore>(
     ensures kept { IfOk result (λ e. IfSome (S.seen store.old).state (λ f. IsKeptEdition f e)) }
     ensures number { IfOk result (λ e. e.served.number ≡ number) }
 {
-    match read_kept(alloc, store, number) {
-        Ok(edition) => Ok(edition),
-        Err(fault) => Err(kept_fault(number, fault)),
-    }
+    read_kept(alloc, store, number).map_err(|fault| kept_fault(number, fault))
 }
 
 // The edition that another one follows, if it is there.
@@ -51,33 +47,9 @@ fn read_followed<S: EditionStore>(
 {
     match edition.follows {
         Some(number) if numbers.binary_search(&number).is_ok() => {
-            let old = read_one(alloc, store, number)?;
-            Ok(Some(old))
+            Ok(Some(read_one(alloc, store, number)?))
         }
         _ => Ok(None),
-    }
-}
-
-// Whether an edition follows the one that was read before it.
-fn is_next(before: &Option<KeptEdition>, edition: &KeptEdition) -> bool {
-    match before {
-        Some(before) => edition.follows == Some(before.served.number),
-        None => false,
-    }
-}
-
-fn row_beside(
-    alloc: Global,
-    numbers: &[u32],
-    served: Option<u32>,
-    edition: &KeptEdition,
-    old: &Option<KeptEdition>,
-) -> Result<EditionRow, FolderFault>
-    ensures { IfOk result (IsRowOf numbers.now served edition.now) }
-{
-    match row_of(alloc, numbers, served, edition, old.as_ref()) {
-        Ok(row) => Ok(row),
-        Err(_) => Err(FolderFault::Memory),
     }
 }
 
@@ -94,11 +66,15 @@ fn row_after<S: EditionStore>(
     ensures unchanged { IsUnchanged (S.seen store.old) (S.seen store.new) }
     ensures row { IfOk result (IsRowOf numbers.now served edition.now) }
 {
-    if is_next(before, edition) {
-        return row_beside(alloc, numbers, served, edition, before);
+    match before {
+        Some(old) if edition.follows == Some(old.served.number) => {
+            Ok(row_of(alloc, numbers, served, edition, Some(old))?)
+        }
+        _ => {
+            let old = read_followed(alloc, store, numbers, edition)?;
+            Ok(row_of(alloc, numbers, served, edition, old.as_ref())?)
+        }
     }
-    let old = read_followed(alloc, store, numbers, edition)?;
-    row_beside(alloc, numbers, served, edition, &old)
 }
 
 // Reads an edition, and adds its row.
@@ -140,10 +116,8 @@ fn list_all<S: EditionStore>(
     let mut rows = Vec::new(alloc);
     let mut before = None;
     for number in numbers {
-        match list_next(alloc, store, &mut rows, numbers, served, *number, &before) {
-            Ok(edition) => before = Some(edition),
-            Err(fault) => return Err(fault),
-        }
+        let edition = list_next(alloc, store, &mut rows, numbers, served, *number, &before)?;
+        before = Some(edition);
     }
     Ok(rows)
 }
@@ -175,33 +149,6 @@ fn list_by<S: EditionStore>(
     list_all(alloc, store, numbers, served)
 }
 
-fn said_of(alloc: Global, numbers: &[u32], rows: &[EditionRow]) -> Result<Said, FolderFault>
-    ensures text { IfOk result (λ said. said.text.items ≡ lines.list_text numbers.now rows.now) }
-    ensures status { IfOk result (λ said. said.status ≡ EditionsStatus.Listed) }
-{
-    match list_text(alloc, numbers, rows) {
-        Ok(text) => Ok(Said {
-            text,
-            status: EditionsStatus::Listed,
-        }),
-        Err(_) => Err(FolderFault::Memory),
-    }
-}
-
-fn listed_by<S: EditionStore>(
-    alloc: Global,
-    store: &mut S,
-    numbers: &[u32],
-) -> Result<Said, FolderFault>
-    requires held { (S.seen store.old).held ≡ true }
-    requires all { IfSome (S.seen store.old).state (λ f. AreNumbersOf f numbers.now) }
-    ensures unchanged { IsUnchanged (S.seen store.old) (S.seen store.new) }
-    ensures said { IfOk result (λ said. IsEditionsText (S.seen store.old) said.text.items said.status) }
-{
-    let rows = list_by(alloc, store, numbers)?;
-    said_of(alloc, numbers, rows.as_slice())
-}
-
 // Lists a folder; what is to be printed of it.
 fn listed<S: EditionStore>(alloc: Global, store: &mut S) -> Result<Said, FolderFault>
     requires { (S.seen store.old).held ≡ true }
@@ -209,7 +156,12 @@ fn listed<S: EditionStore>(alloc: Global, store: &mut S) -> Result<Said, FolderF
     ensures said { IfOk result (λ said. IsEditionsText (S.seen store.old) said.text.items said.status) }
 {
     let numbers = sorted_numbers(alloc, store)?;
-    listed_by(alloc, store, numbers.as_slice())
+    let rows = list_by(alloc, store, numbers.as_slice())?;
+    let text = list_text(alloc, numbers.as_slice(), rows.as_slice())?;
+    Ok(Said {
+        text,
+        status: EditionsStatus::Listed,
+    })
 }
 
 /// Lists the editions of a folder, a line for each, in the order of their numbers.

@@ -4,7 +4,7 @@ ghost use Rattle.std.specs.Prelude.{◌≡◌, true, IfOk, IfSome};
 ghost use Rattle.edition_checks.specs.Served.{IsUnchanged};
 ghost use Rattle.edition_lists.specs.Judged.{AreNumbersOf};
 
-use crate::fault::{FolderFault, folder_fault};
+use crate::fault::FolderFault;
 use editions::EditionStore;
 use std::alloc::Global;
 
@@ -17,11 +17,7 @@ pub fn sorted_numbers<S: EditionStore>(
     ensures unchanged { IsUnchanged (S.seen store.old) (S.seen store.new) }
     ensures all { IfOk result (λ numbers. IfSome (S.seen store.old).state (λ f. AreNumbersOf f numbers.items)) }
 {
-    match store.numbers(alloc) {
-        Ok(mut numbers) => {
-            numbers.sort_unstable();
-            Ok(numbers)
-        }
-        Err(fault) => Err(folder_fault(fault)),
-    }
+    let mut numbers = store.numbers(alloc)?;
+    numbers.sort_unstable();
+    Ok(numbers)
 }

@@ -36,10 +36,7 @@ fn unless_there(numbers: &[u32], number: u32) -> Option<u32>
 fn lack_of(numbers: &[u32], follows: Option<u32>) -> Option<u32>
     ensures { result ≡ lack_of numbers.now follows }
 {
-    match follows {
-        Some(number) => unless_there(numbers, number),
-        None => None,
-    }
+    unless_there(numbers, follows?)
 }
 
 /// The row of an edition. `old` is the edition that it follows, if that is there.
@@ -52,10 +49,7 @@ pub fn row_of(
 ) -> Result<EditionRow, AllocError>
     ensures { IfOk result (IsRowOf numbers.now served edition.now) }
 {
-    let old = match old {
-        Some(old) => Some(&old.served.base),
-        None => None,
-    };
+    let old = old.map(|old| &old.served.base);
     let summary = base_summary(alloc, old, &edition.served.base)?;
     let number = edition.served.number;
     Ok(EditionRow {

@@ -5,11 +5,12 @@ ghost use Rattle.editions.specs.NumberLines.{follows_text};
 ghost use Rattle.editions.specs.Sums as spec;
 ghost use Rattle.editions.specs.Chains.{IsClearedEdition};
 ghost use Rattle.edition_checks.specs.Served.{IsUnchanged};
-ghost use Rattle.edition_lists.specs.Judged.{kept_view, HasItsSums, IsSealed};
+ghost use Rattle.edition_lists.specs.Judged.{kept_view, IsSealed};
 
 use crate::fault::{EditionFlaw, FolderFault, kept_fault};
-use crate::kept::{KeptEdition, read_text};
+use crate::kept::KeptEdition;
 use checker::{Verdict, check};
+use edition_checks::read_text;
 use editions::{EditionFile, EditionFolder, follows_text, sums_text};
 use page_ids::cut;
 use std::alloc::{AllocError, Global};
@@ -83,28 +84,6 @@ fn right_sums(alloc: Global, edition: &KeptEdition, cert: &[u8]) -> Result<Vec<u
     )
 }
 
-// The file of an edition whose sum is wrong.
-fn wrong_sum<F: EditionFolder>(
-    alloc: Global,
-    folder: &mut F,
-    edition: &KeptEdition,
-) -> Result<Option<EditionFile>, FolderFault>
-    requires { (F.seen folder.old).held ≡ true }
-    ensures unchanged { IsUnchanged (F.seen folder.old) (F.seen folder.new) }
-    ensures sums { IfOk result (λ o. o ≡ None → IfSome (F.seen folder.old).state
-        (λ f. HasItsSums f edition.now)) }
-{
-    let number = edition.served.number;
-    let cert = match read_text(alloc, folder, number, EditionFile::Cert) {
-        Ok(text) => text,
-        Err(fault) => return Err(kept_fault(number, fault)),
-    };
-    match right_sums(alloc, edition, cert.as_slice()) {
-        Ok(right) => Ok(other_sum(right.as_slice(), edition.sums.as_slice())),
-        Err(_) => Err(FolderFault::Memory),
-    }
-}
-
 // What the check refuses of an edition, by its own policy.
 fn refused(edition: &KeptEdition) -> Option<EditionFlaw>
     ensures { result ≡ None → IsClearedEdition (kept_view edition.now) }
@@ -126,7 +105,13 @@ pub fn own_fault<F: EditionFolder>(
     ensures unchanged { IsUnchanged (F.seen folder.old) (F.seen folder.new) }
     ensures right { IfOk result (λ o. o ≡ None → IfSome (F.seen folder.old).state (λ f. IsSealed f edition.now)) }
 {
-    match wrong_sum(alloc, folder, edition)? {
+    let number = edition.served.number;
+    let cert = match read_text(alloc, folder, number, EditionFile::Cert) {
+        Ok(text) => text,
+        Err(fault) => return Err(kept_fault(number, fault)),
+    };
+    let right = right_sums(alloc, edition, cert.as_slice())?;
+    match other_sum(right.as_slice(), edition.sums.as_slice()) {
         None => Ok(refused(edition)),
         Some(file) => Ok(Some(EditionFlaw::Sum(file))),
     }

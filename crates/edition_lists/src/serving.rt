@@ -15,30 +15,17 @@ pub enum Serving {
     Never,
 }
 
-// What an edition after the one that is served is.
-fn serving_after(served: u32, follows: Option<u32>) -> Serving
-    ensures { result ≡ spec.serving_after served follows }
-{
-    match follows {
-        Some(number) if number == served => Serving::NotYet,
-        _ => Serving::Never,
-    }
-}
-
 /// What an edition is, by the number of the one that is served.
 pub fn serving_of(served: Option<u32>, number: u32, follows: Option<u32>) -> Serving
     ensures { result ≡ spec.serving_of served number follows }
 {
     match served {
         None => Serving::Never,
-        Some(served) => {
-            if number == served {
-                Serving::Now
-            } else if number < served {
-                Serving::Earlier
-            } else {
-                serving_after(served, follows)
-            }
-        }
+        Some(served) if number == served => Serving::Now,
+        Some(served) if number < served => Serving::Earlier,
+        Some(served) => match follows {
+            Some(number) if number == served => Serving::NotYet,
+            _ => Serving::Never,
+        },
     }
 }

@@ -11,19 +11,9 @@ use crate::numbered::push_numbered;
 use crate::serving::{Serving, serving_of};
 use crate::status::EditionsStatus;
 use audit_report::{change_text, verdict_text};
-use checker::{ChangeVerdict, Verdict};
 use editions::EditionFile;
 use page_ids::push_number;
 use std::alloc::{AllocError, Global};
-
-fn push_folder(out: &mut Vec<u8>, folder: &str, number: u32) -> Result<(), AllocError>
-    ensures { OnOk result (out.new.items ≡ out.old.items ++ spec.folder_words folder.now number) }
-{
-    out.extend_from_slice(folder.as_bytes())?;
-    out.extend_from_slice(b"/editions/")?;
-    push_number(out, u64::from(number))?;
-    out.extend_from_slice(b"/")
-}
 
 // The path of a file of an edition.
 fn push_file(
@@ -34,7 +24,8 @@ fn push_file(
 ) -> Result<(), AllocError>
     ensures { OnOk result (out.new.items ≡ out.old.items ++ spec.file_words folder.now number file) }
 {
-    push_folder(out, folder, number)?;
+    out.extend_from_slice(folder.as_bytes())?;
+    push_numbered(out, b"/editions/", number, b"/")?;
     out.extend_from_slice(file.name().as_bytes())?;
     out.extend_from_slice(b": ")
 }
@@ -62,21 +53,6 @@ fn sum_words(file: EditionFile) -> &'static [u8]
     }
 }
 
-// What the check says of an edition's certificate.
-fn push_refused(
-    alloc: Global,
-    out: &mut Vec<u8>,
-    folder: &str,
-    number: u32,
-    verdict: &Verdict,
-) -> Result<(), AllocError>
-    ensures { OnOk result (out.new.items ≡ out.old.items ++ spec.refused_line folder.now number verdict.now) }
-{
-    push_file(out, folder, number, EditionFile::Cert)?;
-    let line = verdict_text(alloc, verdict)?;
-    out.extend_from_slice(line.as_slice())
-}
-
 // What is wrong with what an edition follows.
 fn push_follows(
     out: &mut Vec<u8>,
@@ -89,21 +65,6 @@ fn push_follows(
     push_numbered(out, b"edition ", number, b" follows ")?;
     push_number(out, u64::from(follows))?;
     out.extend_from_slice(wrong)
-}
-
-// What the check says of a change.
-fn push_change(
-    alloc: Global,
-    out: &mut Vec<u8>,
-    number: u32,
-    follows: u32,
-    verdict: &ChangeVerdict,
-) -> Result<(), AllocError>
-    ensures { OnOk result (out.new.items ≡ out.old.items ++ spec.change_line number follows verdict.now) }
-{
-    push_follows(out, number, follows, b": ")?;
-    let line = change_text(alloc, verdict)?;
-    out.extend_from_slice(line.as_slice())
 }
 
 // The line of what is wrong with an edition: it names the file, or the edition that it follows.
@@ -122,7 +83,10 @@ fn push_flaw(
             push_wrong(out, folder, number, *file, b"it isn't what was published\n")
         }
         EditionFlaw::Sum(file) => push_wrong(out, folder, number, *file, sum_words(*file)),
-        EditionFlaw::Refused(verdict) => push_refused(alloc, out, folder, number, verdict),
+        EditionFlaw::Refused(verdict) => {
+            let line = verdict_text(alloc, verdict)?;
+            push_wrong(out, folder, number, EditionFile::Cert, line.as_slice())
+        }
         EditionFlaw::FollowsNone(k) => push_follows(out, number, *k, b", which isn't there\n"),
         EditionFlaw::FollowsLater(k) => {
             push_follows(out, number, *k, b", which isn't before it\n")
@@ -133,27 +97,13 @@ fn push_flaw(
         EditionFlaw::OtherGroups(k) => {
             push_follows(out, number, *k, b", and its policy has other groups\n")
         }
-        EditionFlaw::ChangeRefused(k, verdict) => push_change(alloc, out, number, *k, verdict),
+        EditionFlaw::ChangeRefused(k, verdict) => {
+            push_follows(out, number, *k, b": ")?;
+            out.extend_from_slice(change_text(alloc, verdict)?.as_slice())
+        }
         EditionFlaw::Passed(k) => {
             push_follows(out, number, *k, b", and is after the one that is served\n")
         }
-    }
-}
-
-// Says that a right edition isn't served yet, if it isn't.
-fn push_unserved(
-    out: &mut Vec<u8>,
-    served: Option<u32>,
-    number: u32,
-    follows: Option<u32>,
-) -> Result<(), AllocError>
-    ensures { OnOk result (out.new.items ≡ out.old.items ++ spec.unserved_line served number follows) }
-{
-    match (serving_of(served, number, follows), follows) {
-        (Serving::NotYet, Some(follows)) => {
-            push_follows(out, number, follows, b", and isn't served yet\n")
-        }
-        _ => Ok(()),
     }
 }
 
@@ -167,9 +117,15 @@ fn push_finding(
 ) -> Result<(), AllocError>
     ensures { OnOk result (out.new.items ≡ out.old.items ++ spec.finding_line folder.now served finding.now) }
 {
+    let number = finding.number;
     match &finding.note {
-        EditionNote::Right(follows) => push_unserved(out, served, finding.number, *follows),
-        EditionNote::Wrong(flaw) => push_flaw(alloc, out, folder, finding.number, flaw),
+        EditionNote::Right(follows) => match (serving_of(served, number, *follows), *follows) {
+            (Serving::NotYet, Some(follows)) => {
+                push_follows(out, number, follows, b", and isn't served yet\n")
+            }
+            _ => Ok(()),
+        },
+        EditionNote::Wrong(flaw) => push_flaw(alloc, out, folder, number, flaw),
     }
 }
 
@@ -188,32 +144,21 @@ fn findings_text(
     Ok(out)
 }
 
-fn push_between(out: &mut Vec<u8>, fork: &Fork) -> Result<(), AllocError>
-    ensures { OnOk result (out.new.items ≡ out.old.items ++ spec.between_line fork.now) }
-{
-    push_follows(out, fork.number, fork.follows, b"")?;
-    push_numbered(
-        out,
-        b", but edition ",
-        fork.between,
-        b" comes between them\n",
-    )
-}
-
 fn push_fork(out: &mut Vec<u8>, fork: Option<Fork>) -> Result<(), AllocError>
     ensures { OnOk result (out.new.items ≡ out.old.items ++ spec.fork_line fork) }
 {
     match fork {
-        Some(fork) => push_between(out, &fork),
+        Some(fork) => {
+            push_follows(out, fork.number, fork.follows, b"")?;
+            push_numbered(
+                out,
+                b", but edition ",
+                fork.between,
+                b" comes between them\n",
+            )
+        }
         None => Ok(()),
     }
-}
-
-fn push_lacking(out: &mut Vec<u8>, folder: &str, number: u32) -> Result<(), AllocError>
-    ensures { OnOk result (out.new.items ≡ out.old.items ++ spec.lacking_line folder.now number) }
-{
-    out.extend_from_slice(folder.as_bytes())?;
-    push_numbered(out, b"/current: edition ", number, b" isn't there\n")
 }
 
 // What is wrong with `current`.
@@ -221,7 +166,10 @@ fn push_current(out: &mut Vec<u8>, folder: &str, current: FoundCurrent) -> Resul
     ensures { OnOk result (out.new.items ≡ out.old.items ++ spec.current_line folder.now current) }
 {
     match current {
-        FoundCurrent::Lacking(number) => push_lacking(out, folder, number),
+        FoundCurrent::Lacking(number) => {
+            out.extend_from_slice(folder.as_bytes())?;
+            push_numbered(out, b"/current: edition ", number, b" isn't there\n")
+        }
         FoundCurrent::Unread => {
             out.extend_from_slice(folder.as_bytes())?;
             out.extend_from_slice(b"/current: has to hold an edition's number and a line end\n")
@@ -252,14 +200,6 @@ fn push_served(out: &mut Vec<u8>, current: FoundCurrent) -> Result<(), AllocErro
     }
 }
 
-// How many editions there are, and which is served.
-fn push_counts(out: &mut Vec<u8>, count: usize, current: FoundCurrent) -> Result<(), AllocError>
-    ensures { OnOk result (out.new.items ≡ out.old.items ++ spec.counts_line count current) }
-{
-    push_count(out, count)?;
-    push_served(out, current)
-}
-
 fn status_line(status: EditionsStatus) -> &'static [u8]
     ensures { result.now ≡ spec.status_line status }
 {
@@ -270,6 +210,7 @@ fn status_line(status: EditionsStatus) -> &'static [u8]
     }
 }
 
+// How many editions there are, which is served, and the verdict.
 fn push_end(
     out: &mut Vec<u8>,
     count: usize,
@@ -277,9 +218,10 @@ fn push_end(
     status: EditionsStatus,
 ) -> Result<(), AllocError>
     ensures { OnOk result (out.new.items ≡
-        out.old.items ++ (spec.counts_line count current ++ spec.status_line status)) }
+        out.old.items ++ (spec.count_words count ++ (spec.served_words current ++ spec.status_line status))) }
 {
-    push_counts(out, count, current)?;
+    push_count(out, count)?;
+    push_served(out, current)?;
     out.extend_from_slice(status_line(status))
 }
 

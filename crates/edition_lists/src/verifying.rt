@@ -2,8 +2,7 @@
 
 ghost use Rattle.std.specs.Prelude.{◌≡◌, ◌++◌, ◌∷◌, [], true, false, Ok, IfOk, IfSome};
 ghost use Rattle.edition_checks.specs.Served.{IsUnchanged};
-ghost use Rattle.edition_lists.specs.Judged.{AreNumbersOf};
-ghost use Rattle.edition_lists.specs.Findings.{AreFindings, IsFoundIn, IsSaidOf};
+ghost use Rattle.edition_lists.specs.Findings.{AreFindings, IsFoundIn};
 ghost use Rattle.edition_lists.specs.Findings as spec;
 ghost use Rattle.edition_lists.specs.Loops as loops;
 ghost use Rattle.edition_lists.specs.Runs.{IsVerification, IsRun};
@@ -74,7 +73,7 @@ fn judge_all<S: EditionStore>(
     let mut findings = Vec::new(alloc);
     let mut before = None;
     for number in numbers {
-        match judge_next(
+        let judged = judge_next(
             alloc,
             store,
             &mut findings,
@@ -82,10 +81,8 @@ fn judge_all<S: EditionStore>(
             served,
             *number,
             &before,
-        ) {
-            Ok(judged) => before = kept_if_right(judged),
-            Err(fault) => return Err(fault),
-        }
+        )?;
+        before = kept_if_right(judged);
     }
     Ok(findings)
 }
@@ -98,18 +95,14 @@ struct FoundFolder {
     findings: Vec<EditionFinding>,
 }
 
-// What is found in a folder, by the numbers of its editions.
-fn find_by<S: EditionStore>(
-    alloc: Global,
-    store: &mut S,
-    numbers: Vec<u32>,
-) -> Result<FoundFolder, FolderFault>
-    requires held { (S.seen store.old).held ≡ true }
-    requires all { IfSome (S.seen store.old).state (λ f. AreNumbersOf f numbers.items) }
+// What is found in a folder.
+fn find_all<S: EditionStore>(alloc: Global, store: &mut S) -> Result<FoundFolder, FolderFault>
+    requires { (S.seen store.old).held ≡ true }
     ensures unchanged { IsUnchanged (S.seen store.old) (S.seen store.new) }
     ensures found { IfOk result (λ found. IfSome (S.seen store.old).state
         (λ f. IsFoundIn f found.numbers.items found.current found.findings.items)) }
 {
+    let numbers = sorted_numbers(alloc, store)?;
     let current = read_current(alloc, store, numbers.as_slice())?;
     let served = served_of(current, numbers.as_slice());
     let findings = judge_all(alloc, store, numbers.as_slice(), served)?;
@@ -120,23 +113,10 @@ fn find_by<S: EditionStore>(
     })
 }
 
-fn find_all<S: EditionStore>(alloc: Global, store: &mut S) -> Result<FoundFolder, FolderFault>
-    requires { (S.seen store.old).held ≡ true }
-    ensures unchanged { IsUnchanged (S.seen store.old) (S.seen store.new) }
-    ensures found { IfOk result (λ found. IfSome (S.seen store.old).state
-        (λ f. IsFoundIn f found.numbers.items found.current found.findings.items)) }
-{
-    let numbers = sorted_numbers(alloc, store)?;
-    find_by(alloc, store, numbers)
-}
-
 fn is_right_current(current: FoundCurrent) -> bool
     ensures { result ≡ spec.is_right_current current }
 {
-    match current {
-        FoundCurrent::Nothing | FoundCurrent::Edition(_) => true,
-        FoundCurrent::Lacking(_) | FoundCurrent::Unread => false,
-    }
+    matches!(current, FoundCurrent::Nothing | FoundCurrent::Edition(_))
 }
 
 fn verify_status(current: FoundCurrent, findings: &[EditionFinding]) -> EditionsStatus
@@ -146,20 +126,6 @@ fn verify_status(current: FoundCurrent, findings: &[EditionFinding]) -> Editions
         EditionsStatus::Cleared
     } else {
         EditionsStatus::Refused
-    }
-}
-
-// What is to be printed of a folder.
-fn said_of(alloc: Global, folder: &str, found: &FoundFolder) -> Result<Said, FolderFault>
-    ensures { IfOk result (λ said. IsSaidOf folder.now found.now.numbers.items found.now.current
-        found.now.findings.items said.text.items said.status) }
-{
-    let findings = found.findings.as_slice();
-    let served = served_of(found.current, found.numbers.as_slice());
-    let status = verify_status(found.current, findings);
-    match verify_text(alloc, folder, found.current, served, findings, status) {
-        Ok(text) => Ok(Said { text, status }),
-        Err(_) => Err(FolderFault::Memory),
     }
 }
 
@@ -174,7 +140,11 @@ fn verified<S: EditionStore>(
     ensures said { IfOk result (λ said. IsVerification (S.seen store.old) folder.now said.text.items said.status) }
 {
     let found = find_all(alloc, store)?;
-    said_of(alloc, folder, &found)
+    let findings = found.findings.as_slice();
+    let served = served_of(found.current, found.numbers.as_slice());
+    let status = verify_status(found.current, findings);
+    let text = verify_text(alloc, folder, found.current, served, findings, status)?;
+    Ok(Said { text, status })
 }
 
 /// Verifies a folder of editions. `folder` is its path, as it is printed before the files in it.

@@ -22,10 +22,7 @@ pub fn current_in(text: &[u8]) -> Option<u32>
     ensures value { result ≡ current_in text.now }
     ensures within { IfSome result (λ n. n ≤ MOST_EDITION) }
 {
-    match number_read(line_in(text)?, MOST_EDITION) {
-        Ok(number) => Some(number),
-        Err(_) => None,
-    }
+    number_read(line_in(text)?, MOST_EDITION).ok()
 }
 
 /// The text of `current` for an edition.
@@ -45,13 +42,8 @@ pub fn follows_in(text: &[u8]) -> Option<Option<u32>>
 {
     match current_in(text) {
         Some(number) => Some(Some(number)),
-        None => {
-            if text == b"-\n".as_slice() {
-                Some(None)
-            } else {
-                None
-            }
-        }
+        None if text == b"-\n".as_slice() => Some(None),
+        None => None,
     }
 }
 
@@ -61,11 +53,7 @@ pub fn follows_text(alloc: Global, follows: Option<u32>) -> Result<Vec<u8>, Allo
 {
     match follows {
         Some(number) => current_text(alloc, number),
-        None => {
-            let mut text = Vec::new(alloc);
-            text.extend_from_slice(b"-\n")?;
-            Ok(text)
-        }
+        None => Ok(vec![in alloc; b'-', b'\n']?),
     }
 }
 

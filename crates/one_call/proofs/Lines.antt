@@ -1,9 +1,9 @@
 -- What was read and written of a call, byte by byte.
-use Rattle.std.proofs.Common.{◌≡◌, ◌≢◌, ℕ, ◌+◌, ◌≤◌, refl, ap, sym, ◌∙◌, subst, arith, Bool, true, false, List, [], ◌∷◌, ◌++◌, length, take, get_or, append-nil}
+use Rattle.std.proofs.Common.{◌≡◌, ◌≢◌, ℕ, ◌+◌, ◌≤◌, refl, ap, sym, ◌∙◌, subst, arith, false, List, [], ◌∷◌, ◌++◌, length, take, get_or, append-nil}
 use Rattle.std.proofs.Math.Seq.{take-append-add}
 use Rattle.std.specs.Prelude.{Err}
-use Rattle.std.specs.Io.KnownBytes.{Appends, Consumes, Keeps}
-use Rattle.std.proofs.KnownBytes.{Appends-nil, Appends-trans, Consumes-nil, Consumes-trans, Consumes-kept}
+use Rattle.std.specs.Io.KnownBytes.{Appends, Consumes}
+use Rattle.std.proofs.KnownBytes.{Appends-nil, Appends-trans, Consumes-nil, Consumes-trans}
 use Rattle.frame_records.specs.declared.base.Sought.{Sought}
 use Rattle.devices.specs.Devices.{Seen}
 use Rattle.editions.specs.Folders.{SeenFolder, IsLater}
@@ -20,7 +20,7 @@ use Rattle.one_call.specs.Lines.{IsSoFar, IsCutCall, IsLineServed}
 use Rattle.one_call.proofs.Renewed.{none_alone}
 use Rattle.one_call.specs.Loops.{IsEntryRefused, IsRenewed, IsWritten, IsBegunText, IsCutBy, IsBegun}
 use Rattle.one_call.proofs.Parts.{over_editions, now_over, call_over_same, heard_same, bytes_same, are_heard_over, served_over, with_byte, call_byte, bytes_byte, heard_byte, are_heard_byte, served_byte}
-use Rattle.one_call.proofs.Safe.{begins}
+use Rattle.one_call.proofs.Safe.{begins_safe}
 
 -- The beginning.
 
@@ -51,7 +51,7 @@ nothing_begun old new text e = record { n = 0; taken = subst (λ (s : Seen). App
 -- whatever stopped it: the entry frame of what is cleared is found
 pub begin_stopped : (groups : List ℕ) (folder : SeenFolder) (s : Served) (from old new : Seen) (fault : ServeFault) → AreServed groups folder (First s []) → IsBegun groups s.base old new (Err fault)
     → IsLineServed groups folder from from old new (Err fault)
-begin_stopped groups folder s from old new NotOpened served h = subst (λ (sought : Sought). IsEntryRefused sought) (begins groups s served.0 served.1.fit).found h.0
+begin_stopped groups folder s from old new NotOpened served h = subst (λ (sought : Sought). IsEntryRefused sought) (begins_safe groups s [] served.0 served.1.fit).found h.0
 begin_stopped groups folder s from old new Read served h = absurd h
 begin_stopped groups folder s from old new Write served h = (h.0, begin_cut groups folder s from old new served h.1)
 begin_stopped groups folder s from old new Memory served h = begin_cut groups folder s from old new served (nothing_begun old new (first_bytes s.base) h)
@@ -150,29 +150,6 @@ cut_by groups folder from mid to old written new parts s c b Read h served cut =
 cut_by groups folder from mid to old written new parts s c b Write h served cut = (cut.0, cut_more groups folder from mid to old written new parts s c b h served cut.1)
 cut_by groups folder from mid to old written new parts s c b Memory h served cut =
     cut_more groups folder from mid to old written new parts s c b h served (nothing_begun written new (sent_bytes c.caret (turn s.base c b).1) cut)
-
--- The end.
-
-pub over_after : (groups : List ℕ) (parts : Parts) (c : CallView) (over : Bool) → c ≡ call_over groups parts → over ≡ c.over → over ≡ true → (call_over groups parts).over ≡ true
-over_after groups parts c over e f g = sym (ap (λ (x : CallView). x.over) e) ∙ (sym f ∙ g)
-
--- a read that gave nothing
-pub so_far_end : (groups : List ℕ) (from mid to old new : Seen) (parts : Parts) (into : List ℕ) (n : ℕ)
-    → IsSoFar groups from mid old new parts → n ≡ 0 → Consumes mid.bytes to.bytes (take n into) → IsSoFar groups from to old new parts
-so_far_end groups from mid to old new parts into n h none given = record {
-  given = subst (λ (bs : List ℕ). Consumes from.bytes to.bytes bs) (append-nil (heard_in parts))
-      (Consumes-trans from.bytes mid.bytes to.bytes (heard_in parts) [] h.given (subst (λ (m : ℕ). Consumes mid.bytes to.bytes (take m into)) none given));
-  heard = h.heard;
-  written = h.written;
-}
-
--- a read that failed
-pub so_far_unread : (groups : List ℕ) (from mid to old new : Seen) (parts : Parts) → IsSoFar groups from mid old new parts → Keeps mid.bytes to.bytes → IsSoFar groups from to old new parts
-so_far_unread groups from mid to old new parts h kept = record {
-  given = Consumes-kept from.bytes mid.bytes to.bytes (heard_in parts) h.given kept;
-  heard = h.heard;
-  written = h.written;
-}
 
 -- Reads.
 

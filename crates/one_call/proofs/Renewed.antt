@@ -25,16 +25,12 @@ held_both folder P Q then h = λ held. by folder.state (then held) (h held) wher
   by (Some f) t p = t p
 
 -- `current` names one number
-same_some : (a b : List ℕ) → Some a ≡ Some b → a ≡ b
-same_some a b e = cc
-
-same_number : (n m : ℕ) → Some n ≡ Some m → n ≡ m
-same_number n m e = cc
-
 names_one : (f : FolderState) (n m : ℕ) → NamesCurrent n f → NamesCurrent m f → n ≡ m
 names_one f n m a b =
-    let same : b.text ≡ a.text = same_some b.text a.text (sym b.current ∙ a.current) in
-    same_number n m (sym a.named ∙ (ap current_in (sym same) ∙ b.named))
+    let texts : Some b.text ≡ Some a.text = sym b.current ∙ a.current in
+    let same : b.text ≡ a.text = cc in
+    let numbers : Some n ≡ Some m = sym a.named ∙ (ap current_in (sym same) ∙ b.named) in
+    cc
 
 held_always : (folder : SeenFolder) (P : FolderState → Type 0) → ((f : FolderState) → P f) → IfHeld folder P
 held_always folder P always = λ held. by folder.state where

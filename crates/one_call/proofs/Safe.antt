@@ -47,7 +47,7 @@ record IsKeptOver (groups : List ℕ) (parts : Parts) : Type 0 where
 
 -- The first edition.
 
-begins_safe : (groups : List ℕ) (s : Served) (bytes : List ℕ) → s.policy.groups ≡ groups → IsFit s → IsSafeBeginning groups s bytes
+pub begins_safe : (groups : List ℕ) (s : Served) (bytes : List ℕ) → s.policy.groups ≡ groups → IsFit s → IsSafeBeginning groups s bytes
 begins_safe groups s bytes same fit =
     let good = cleared_good s.base s.policy s.cert fit.cleared in
     let keys = first_keys groups s.base bytes in
@@ -133,7 +133,3 @@ kept_over groups (Then before s bytes) h = goes_on_kept groups before s bytes (k
 
 pub parts_are_safe : PartsAreSafe
 parts_are_safe groups parts h t = record { seen = parts_are_seen groups parts t; safe = (kept_over groups parts h).safe }
-
--- the entry frame of the first edition is found
-pub begins : (groups : List ℕ) (s : Served) → s.policy.groups ≡ groups → IsFit s → IsSafeBeginning groups s []
-begins groups s same fit = begins_safe groups s [] same fit

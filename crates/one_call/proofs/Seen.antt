@@ -41,21 +41,15 @@ record IsTurn (base : BaseView) (c : CallView) (keys : List Key) (o : CallView �
 no_command : (n : ℕ) (words command : List ℕ) → (n == 0) ≡ true → words ≡ (if n == 0 then words else command)
 no_command n words command e = ap (λ (test : Bool). if true then words else command) e ∙ sym (ap (λ (test : Bool). if test then words else command) e)
 
-reply_top : (base : BaseView) (top : List ℕ) (reply : Reply) → last_top top (sending_of base reply ∷ []) ≡ top_after base top (sent_in (reply ∷ []))
-reply_top base top (Shown to price) = refl
-reply_top base top (Again to) = refl
-reply_top base top NotOffered = refl
-reply_top base top (Missing to) = refl
-reply_top base top (Closed to) = refl
-reply_top base top (Gone page) = refl
-
-reply_says : (base : BaseView) (words : List ℕ) (reply : Reply) → last_words words (sending_of base reply ∷ []) ≡ reply_words reply
-reply_says base words (Shown to price) = refl
-reply_says base words (Again to) = refl
-reply_says base words NotOffered = refl
-reply_says base words (Missing to) = refl
-reply_says base words (Closed to) = refl
-reply_says base words (Gone page) = refl
+-- rows 0 and 23 after a reply
+reply_rows : (base : BaseView) (top words : List ℕ) (reply : Reply)
+    → (last_top top (sending_of base reply ∷ []) ≡ top_after base top (sent_in (reply ∷ []))) × (last_words words (sending_of base reply ∷ []) ≡ reply_words reply)
+reply_rows base top words (Shown to price) = (refl, refl)
+reply_rows base top words (Again to) = (refl, refl)
+reply_rows base top words NotOffered = (refl, refl)
+reply_rows base top words (Missing to) = (refl, refl)
+reply_rows base top words (Closed to) = (refl, refl)
+reply_rows base top words (Gone page) = (refl, refl)
 
 heard_is : (base : BaseView) (c : CallView) (h : HearingView) (heard : Heard) → LeavesBy c.hearing.command h.command heard → IsTurn base c (keys_unless_over false heard []) (heard_turn base (with_hearing c h) heard)
 heard_is base c h Nothing leaves = record {
@@ -74,8 +68,8 @@ heard_is base c h (Pressed key) leaves =
       groups = refl;
       state = refl;
       frames = refl;
-      top = λ top. reply_top base top reply;
-      words = reply_says base (bottom_text c) reply ∙ no_command (length h.command) (reply_words reply) h.command leaves;
+      top = λ top. (reply_rows base top [] reply).0;
+      words = (reply_rows base [] (bottom_text c) reply).1 ∙ no_command (length h.command) (reply_words reply) h.command leaves;
     }
 heard_is base c h Page leaves = record { caret = refl; groups = refl; state = refl; frames = refl; top = λ top. refl; words = no_command (length h.command) _ h.command leaves }
 heard_is base c h End leaves = record { caret = refl; groups = refl; state = refl; frames = refl; top = λ top. refl; words = no_command (length h.command) _ h.command leaves }

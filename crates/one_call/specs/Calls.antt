@@ -6,7 +6,7 @@ use Rattle.devices.specs.Devices.{Seen}
 use Rattle.editions.specs.Folders.{SeenFolder}
 use Rattle.one_call.specs.declared.fault.ServeFault.{ServeFault}
 use Rattle.one_call.specs.declared.fault.CallFault.{CallFault}
-use Rattle.one_call.specs.declared.fault.CallFault.TheVariants.{Unpublished, Unnamed, Folder, Edition, Refused, Line, Memory}
+use Rattle.one_call.specs.declared.fault.CallFault.TheVariants.{Refused, Line}
 use Rattle.one_call.specs.Lines.{IsSilent, IsLineServed}
 use Rattle.one_call.specs.Opened.{AreServed, IsToRefuse}
 use Rattle.one_call.specs.Parts.{Parts, heard_in, call_bytes}
@@ -22,11 +22,7 @@ abbrev pub IsCallServed : SeenFolder → Seen → Seen → Seen → Seen → Res
 IsCallServed folder from to old new (Ok u) = IsCallOf folder from to old new (Ok u)
 IsCallServed folder from to old new (Err (Line fault)) = IsCallOf folder from to old new (Err fault)
 IsCallServed folder from to old new (Err (Refused number cause)) = IsToRefuse folder number cause × IsSilent from to old new
-IsCallServed folder from to old new (Err (Edition number fault)) = IsSilent from to old new
-IsCallServed folder from to old new (Err Unpublished) = IsSilent from to old new
-IsCallServed folder from to old new (Err Unnamed) = IsSilent from to old new
-IsCallServed folder from to old new (Err Folder) = IsSilent from to old new
-IsCallServed folder from to old new (Err Memory) = IsSilent from to old new
+IsCallServed folder from to old new (Err _) = IsSilent from to old new
 
 -- the headline of a whole call: editions were served that were cleared, each against the one before it; exactly a call's bytes were
 -- written; and whatever the caller's terminal was before, it then shows what is promised

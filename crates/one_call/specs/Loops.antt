@@ -7,7 +7,7 @@ use Rattle.frame_records.specs.declared.base.Sought.{Sought}
 use Rattle.frame_records.specs.declared.base.Sought.TheVariants as sought
 use Rattle.devices.specs.Devices.{Seen}
 use Rattle.line_keys.specs.declared.heard.Heard.{Heard}
-use Rattle.line_keys.specs.declared.heard.Heard.TheVariants.{Nothing, Changed, Pressed, Page, End}
+use Rattle.line_keys.specs.declared.heard.Heard.TheVariants.{Pressed}
 use Rattle.served_bytes.specs.Sent.{sent_bytes}
 use Rattle.one_call.specs.declared.fault.ServeFault.{ServeFault}
 use Rattle.one_call.specs.declared.fault.ServeFault.TheVariants.{NotOpened, Read, Write, Memory}
@@ -34,10 +34,9 @@ pub record IsBegunText (old new : Seen) (text : List ℕ) : Type 0 where
 
 -- a text was written, or not to its end
 abbrev pub IsCutBy : Seen → Seen → List ℕ → ServeFault → Type 0
-IsCutBy old new text NotOpened = ⊥
-IsCutBy old new text Read = ⊥
 IsCutBy old new text Write = (new.failed ≡ true) × IsBegunText old new text
 IsCutBy old new text Memory = new ≡ old
+IsCutBy old new text _ = ⊥
 
 -- the entry frame isn't found
 abbrev pub IsEntryRefused : Sought → Type 0
@@ -67,11 +66,8 @@ IsByteAnswered base from byte old new to (Err fault) = IsCutBy old new (sent_byt
 
 -- whether a key was heard
 abbrev pub ends_key : Heard → Bool
-ends_key Nothing = false
-ends_key Changed = false
 ends_key (Pressed key) = true
-ends_key Page = false
-ends_key End = false
+ends_key _ = false
 
 -- The edition.
 
@@ -84,29 +80,16 @@ pub record IsRenewed (folder : SeenFolder) (old new : Served) : Type 0 where
 abbrev pub IsEditionJudged : Served → Result Served CallFault → Type 0
 IsEditionJudged s (Ok t) = (t ≡ s) × IsFit s
 IsEditionJudged s (Err (faults.Refused number cause)) = (number ≡ s.number) × (verdict s.base s.policy s.cert ≡ verdicts.Refused cause)
-IsEditionJudged s (Err faults.Unpublished) = ⊥
-IsEditionJudged s (Err faults.Unnamed) = ⊥
-IsEditionJudged s (Err faults.Folder) = ⊥
-IsEditionJudged s (Err (faults.Edition number fault)) = ⊥
-IsEditionJudged s (Err (faults.Line fault)) = ⊥
-IsEditionJudged s (Err faults.Memory) = ⊥
+IsEditionJudged s (Err _) = ⊥
 
 -- a fault of what is read, before anything is checked
 abbrev pub IsBeforeCheck : CallFault → Type 0
-IsBeforeCheck faults.Unpublished = Unit {0}
-IsBeforeCheck faults.Unnamed = Unit {0}
-IsBeforeCheck faults.Folder = Unit {0}
-IsBeforeCheck (faults.Edition number fault) = Unit {0}
 IsBeforeCheck (faults.Refused number cause) = ⊥
 IsBeforeCheck (faults.Line fault) = ⊥
-IsBeforeCheck faults.Memory = Unit {0}
+IsBeforeCheck _ = Unit {0}
 
 -- why no call is begun
 abbrev pub IsOpenRefused : SeenFolder → CallFault → Type 0
 IsOpenRefused folder (faults.Refused number cause) = IsToRefuse folder number cause
-IsOpenRefused folder faults.Unpublished = Unit {0}
-IsOpenRefused folder faults.Unnamed = Unit {0}
-IsOpenRefused folder faults.Folder = Unit {0}
-IsOpenRefused folder (faults.Edition number fault) = Unit {0}
 IsOpenRefused folder (faults.Line fault) = ⊥
-IsOpenRefused folder faults.Memory = Unit {0}
+IsOpenRefused folder _ = Unit {0}

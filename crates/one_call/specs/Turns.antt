@@ -5,7 +5,7 @@ use Rattle.frame_records.specs.Bases.{BaseView}
 use Rattle.frame_records.specs.Seek.{entry_of}
 use Rattle.terminal_codes.specs.declared.caret.Caret.{Caret}
 use Rattle.session_machine.specs.declared.reply.Reply.{Reply}
-use Rattle.session_machine.specs.declared.reply.Reply.TheVariants.{Shown, Again, NotOffered, Missing, Closed, Gone}
+use Rattle.session_machine.specs.declared.reply.Reply.TheVariants.{Gone}
 use Rattle.session_machine.specs.Sessions.{SessionState, SessionView, key_step, opening}
 use Rattle.line_keys.specs.declared.heard.Heard.{Heard}
 use Rattle.line_keys.specs.declared.heard.Heard.TheVariants.{Nothing, Changed, Pressed, Page, End}
@@ -46,11 +46,7 @@ said c words over = (record { hearing = c.hearing; session = c.session; caret = 
 -- a caller who leaves for a page has ended the call
 abbrev pub is_leaving : Reply → Bool
 is_leaving (Gone page) = true
-is_leaving (Shown id price) = false
-is_leaving (Again id) = false
-is_leaving NotOffered = false
-is_leaving (Missing id) = false
-is_leaving (Closed id) = false
+is_leaving _ = false
 
 -- what a key does to the session, and its reply
 abbrev pub replied : BaseView → CallView → SessionState × Reply → CallView × List Sending

@@ -1,8 +1,7 @@
 //! A call so far, and what a byte does to it.
 
 ghost use Rattle.std.specs.Prelude.{◌≡◌, ◌++◌, false, IfOk, IfErr, OnOk};
-ghost use Rattle.served_bytes.specs.Sent.{Says, opening_bytes, home, caret_after, sending_bytes, sent_bytes};
-ghost use Rattle.served_bytes.specs.Words.{sending_of};
+ghost use Rattle.served_bytes.specs.Sent.{Says, sending_bytes, sent_bytes};
 ghost use Rattle.one_call.specs.Loops.{IsBeginFault, ends_key};
 ghost use Rattle.line_keys.specs.Heard.{hear};
 ghost use Rattle.one_call.specs.Turns.{begun_call, bottom_text, first_bytes, is_leaving, said, keyed, turn};
@@ -43,29 +42,7 @@ impl Model for OneCall {
 fn is_leaving(reply: &Reply) -> bool
     ensures { result ≡ is_leaving reply.now }
 {
-    match reply {
-        Reply::Gone(_) => true,
-        Reply::Shown(_, _)
-        | Reply::Again(_)
-        | Reply::NotOffered
-        | Reply::Missing(_)
-        | Reply::Closed(_) => false,
-    }
-}
-
-// Writes the bytes with which a call begins after a text.
-fn push_first(
-    alloc: Global,
-    text: &mut Vec<u8>,
-    base: &Base,
-    reply: &Reply,
-) -> Result<Caret, AllocError>
-    ensures text { OnOk result (text.new.items ≡ text.old.items ++
-        (opening_bytes ++ sending_bytes home (sending_of base.now reply.now))) }
-    ensures caret { IfOk result (λ caret. caret ≡ caret_after home (sending_of base.now reply.now)) }
-{
-    let caret = push_opening(text)?;
-    push_reply(alloc, text, base, caret, reply)
+    matches!(reply, Reply::Gone(_))
 }
 
 impl OneCall {
@@ -85,10 +62,8 @@ impl OneCall {
             Err(OpenFault::Memory) => return Err(ServeFault::Memory),
             Err(_) => return Err(ServeFault::NotOpened),
         };
-        let caret = match push_first(alloc, text, base, &reply) {
-            Ok(caret) => caret,
-            Err(_) => return Err(ServeFault::Memory),
-        };
+        let home = push_opening(text).map_err(|_| ServeFault::Memory)?;
+        let caret = push_reply(alloc, text, base, home, &reply).map_err(|_| ServeFault::Memory)?;
         Ok(OneCall {
             hearing: Hearing::new(),
             session,

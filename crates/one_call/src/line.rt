@@ -28,10 +28,8 @@ fn begin<W: Sink>(
 {
     let mut text = Vec::new(alloc);
     let call = OneCall::begin(alloc, &mut text, base, groups)?;
-    match write_whole(sink, text.as_slice()) {
-        Ok(()) => Ok(call),
-        Err(_) => Err(ServeFault::Write),
-    }
+    write_whole(sink, text.as_slice()).map_err(|_| ServeFault::Write)?;
+    Ok(call)
 }
 
 // Hears a byte, and writes what it asks for.
@@ -53,10 +51,7 @@ fn answer<W: Sink, L: CallLog>(
         Ok(false) => {}
         Err(_) => return Err(ServeFault::Memory),
     }
-    match write_whole(sink, text.as_slice()) {
-        Ok(()) => Ok(()),
-        Err(_) => Err(ServeFault::Write),
-    }
+    write_whole(sink, text.as_slice()).map_err(|_| ServeFault::Write)
 }
 
 /// Serves a call of a caller of the groups of an edition's policy: the entry frame, and then an answer for each byte that asks for

@@ -20,10 +20,7 @@ pub fn current_number<F: EditionFolder>(alloc: Global, folder: &mut F) -> Result
     ensures fault { IfErr result IsBeforeCheck }
 {
     match folder.read_current(alloc) {
-        Ok(Some(text)) => match current_in(text.as_slice()) {
-            Some(number) => Ok(number),
-            None => Err(CallFault::Unnamed),
-        },
+        Ok(Some(text)) => current_in(text.as_slice()).ok_or(CallFault::Unnamed),
         Ok(None) => Err(CallFault::Unpublished),
         Err(StoreFault::Broken) => Err(CallFault::Folder),
         Err(StoreFault::Memory) => Err(CallFault::Memory),

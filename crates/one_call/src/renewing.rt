@@ -1,6 +1,6 @@
 //! The edition that a caller is served, while others are published.
 
-ghost use Rattle.std.specs.Prelude.{◌≡◌, ◌≢◌, IfSome};
+ghost use Rattle.std.specs.Prelude.{◌≢◌, IfSome};
 ghost use Rattle.editions.specs.Folders.{IsLater};
 ghost use Rattle.edition_checks.specs.Served.{IfHeld};
 ghost use Rattle.edition_checks.specs.NextEditions.{IsEditionReached};
@@ -13,30 +13,8 @@ use edition_checks::{ReachFault, Served, reach_edition};
 use editions::EditionFolder;
 use std::alloc::Global;
 
-// The edition of this number, if it is reached from the one that is served. One that never will be is remembered.
-fn reached<F: EditionFolder>(
-    alloc: Global,
-    folder: &mut F,
-    served: &Served,
-    number: u32,
-    refused: &mut Option<u32>,
-) -> Option<Served>
-    ensures later { IsLater (F.seen folder.old) (F.seen folder.new) }
-    ensures reached { IfSome result (IsEditionReached (F.seen folder.old) served.now) }
-    ensures number { IfSome result (λ new. new.number ≡ number) }
-{
-    match reach_edition(alloc, folder, served, number) {
-        Ok(new) => Some(new),
-        Err(ReachFault::Unread) => None,
-        Err(ReachFault::OtherBeginning | ReachFault::Refused) => {
-            *refused = Some(number);
-            None
-        }
-    }
-}
-
-// The edition that `current` names, if it names another than is served, and that is reached. The number of one that was refused is
-// passed over as long as `current` names it.
+// The edition that `current` names, if it names another than is served, and that is reached. The number of one that never will be is
+// remembered, and passed over as long as `current` names it.
 fn new_edition<F: EditionFolder>(
     alloc: Global,
     folder: &mut F,
@@ -48,9 +26,8 @@ fn new_edition<F: EditionFolder>(
     ensures current { IfSome result (λ new. IfHeld (F.seen folder.old) (NamesCurrent new.number)) }
     ensures other { IfSome result (λ new. new.number ≢ served.now.number) }
 {
-    let number = match current_number(alloc, folder) {
-        Ok(number) => number,
-        Err(_) => return None,
+    let Ok(number) = current_number(alloc, folder) else {
+        return None;
     };
     if *refused == Some(number) {
         return None;
@@ -59,7 +36,14 @@ fn new_edition<F: EditionFolder>(
     if number == served.number {
         return None;
     }
-    reached(alloc, folder, served, number, refused)
+    match reach_edition(alloc, folder, served, number) {
+        Ok(new) => Some(new),
+        Err(ReachFault::Unread) => None,
+        Err(ReachFault::OtherBeginning | ReachFault::Refused) => {
+            *refused = Some(number);
+            None
+        }
+    }
 }
 
 /// Looks at `current`. If it names an edition to which callers may be taken, that one is served from now on.

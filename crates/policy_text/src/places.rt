@@ -1,10 +1,9 @@
 //! Where a policy's text has its first fault.
 
-ghost use Rattle.std.specs.Prelude.{◌≡◌, ◌-◌, IfOk, OnOk, Some, None, option_copied};
+ghost use Rattle.std.specs.Prelude.{◌≡◌, IfOk, Some};
 ghost use Rattle.toml.specs.Data.{Members};
 ghost use Rattle.toml.specs.View.{table_view};
 ghost use Rattle.toml_places.specs.Places.{Keeps, marks};
-ghost use Rattle.toml_places.specs.Spans.{element_span};
 ghost use Rattle.base_text.specs.Whole.{tree_of};
 ghost use Rattle.policy_text.specs.Policies.{unknown_key};
 ghost use Rattle.policy_text.specs.PolicyPlaces as spec;
@@ -19,40 +18,14 @@ use toml_places::{Places, Span, element_spans, key_span, value_span};
 
 const FRONT: Span = Span { begin: 0, end: 0 };
 
-fn key_at(text: &str, places: &Places, key: &str) -> Option<Span>
-    requires { Keeps places.now (marks text.now) }
-    ensures { result ≡ spec.policy_key_at text.now (spec.policy_key_spot text.now key.now) }
-{
-    match places.key(None, key) {
-        Some(spot) => key_span(text, spot),
-        None => None,
-    }
-}
-
 fn field_at(text: &str, places: &Places, field: PolicyField) -> Option<Span>
     requires { Keeps places.now (marks text.now) }
     ensures { result ≡ spec.policy_field_at text.now field }
 {
-    match places.key(None, field.name()) {
-        Some(spot) => value_span(text, spot),
-        None => None,
-    }
+    value_span(text, places.key(None, field.name())?)
 }
 
-// An element of an array that begins at an offset, by its number from 1.
-fn element_at(
-    alloc: Global,
-    text: &str,
-    at: usize,
-    number: usize,
-) -> Result<Option<Span>, AllocError>
-    ensures { IfOk result (λ span. span ≡ element_span (number - 1) at text.now) }
-{
-    let spans = element_spans(alloc, text, at)?;
-    Ok(spans.get(number.saturating_sub(1)).copied())
-}
-
-// An item of `groups`.
+// An item of `groups`, by its number from 1.
 fn item_at(
     alloc: Global,
     text: &str,
@@ -65,20 +38,16 @@ fn item_at(
     let Some(array) = field_at(text, places, PolicyField::Groups) else {
         return Ok(None);
     };
-    match element_at(alloc, text, array.begin, number)? {
-        Some(span) => Ok(Some(span)),
-        None => Ok(Some(array)),
-    }
+    let spans = element_spans(alloc, text, array.begin)?;
+    let item = spans.get(number.saturating_sub(1)).copied();
+    Ok(item.or(Some(array)))
 }
 
 fn unknown_at(text: &str, places: &Places, table: &Table) -> Option<Span>
     requires { Keeps places.now (marks text.now) }
     ensures { result ≡ spec.unknown_key_at text.now (unknown_key (table_view table.now)) }
 {
-    match unknown_key(table) {
-        Some(key) => key_at(text, places, key),
-        None => None,
-    }
+    key_span(text, places.key(None, unknown_key(table)?)?)
 }
 
 fn fault_at(
@@ -106,22 +75,13 @@ fn fault_at(
 
 // Where toml refuses a text.
 fn error_span(error: &Error) -> Span {
-    match error.span() {
-        Some(range) => Span {
-            begin: range.start,
-            end: range.end,
-        },
-        None => FRONT,
+    let Some(range) = error.span() else {
+        return FRONT;
+    };
+    Span {
+        begin: range.start,
+        end: range.end,
     }
-}
-
-fn span_in(alloc: Global, text: &str, table: &Table, fault: PolicyFault) -> Result<Span, AllocError>
-    requires { tree_of text.now ≡ Some (table_view table.now) }
-    ensures { IfOk result (λ span. span ≡ spec.or_front (spec.policy_fault_at text.now (table_view table.now) fault)) }
-{
-    let places = Places::of(alloc, text)?;
-    let span = fault_at(alloc, text, &places, table, fault)?;
-    Ok(span.unwrap_or(FRONT))
 }
 
 /// The smallest piece of a policy's text that is at fault: a key, a value or an item. The front of the text for what isn't there,
@@ -137,8 +97,10 @@ pub fn fault_span(alloc: Global, text: &[u8], fault: PolicyFault) -> Result<Span
         Ok(table) => table,
         Err(error) => return Ok(error_span(&error)),
     };
-    match str::from_utf8(text) {
-        Ok(text) => span_in(alloc, text, &table, fault),
-        Err(_) => unreachable!(),
-    }
+    let Ok(text) = str::from_utf8(text) else {
+        unreachable!();
+    };
+    let places = Places::of(alloc, text)?;
+    let span = fault_at(alloc, text, &places, &table, fault)?;
+    Ok(span.unwrap_or(FRONT))
 }

@@ -2,7 +2,7 @@
 
 ghost use Rattle.std.specs.Prelude.{◌≡◌, IfOk, Ok};
 ghost use Rattle.toml.specs.View.{table_view};
-ghost use Rattle.policy_text.specs.Policies.{values_of, members_policy, IsPolicyOfText, widest_text, policy_in, widest};
+ghost use Rattle.policy_text.specs.Policies.{members_policy, IsPolicyOfText, widest_text, policy_in, widest};
 
 use crate::fault::{PolicyFault, PolicyField};
 use crate::keys::{member, unknown_key};
@@ -15,10 +15,13 @@ use frame_records::{MOST_PENCE, Pence};
 use std::alloc::{AllocError, Global};
 use toml::Table;
 
-// The values of a table, in the order of the keys.
-fn values_of(table: &Table) -> Result<Policy, PolicyFault>
-    ensures { result ≡ values_of (table_view table.now) }
+// The values of a table, in the order of the keys; an unknown key comes before them.
+fn policy_of(table: &Table) -> Result<Policy, PolicyFault>
+    ensures { result ≡ members_policy (table_view table.now) }
 {
+    if unknown_key(table).is_some() {
+        return Err(PolicyFault::UnknownKey);
+    }
     let ceiling = required_number(PolicyField::Ceiling, MOST_PENCE, member(table, "ceiling"))?;
     let keyings = required_number(PolicyField::Keyings, MOST_RANK, member(table, "keyings"))?;
     let groups = read_groups(member(table, "groups"))?;
@@ -27,15 +30,6 @@ fn values_of(table: &Table) -> Result<Policy, PolicyFault>
         keyings,
         groups,
     })
-}
-
-fn policy_of(table: &Table) -> Result<Policy, PolicyFault>
-    ensures { result ≡ members_policy (table_view table.now) }
-{
-    if unknown_key(table).is_some() {
-        return Err(PolicyFault::UnknownKey);
-    }
-    values_of(table)
 }
 
 /// The policy that a text means, or its first fault.

@@ -3,7 +3,7 @@
 ghost use Rattle.std.specs.Prelude.{◌≡◌, ◌≤◌, [], Ok, Err, IfOk, MatchResult};
 ghost use Rattle.toml.specs.View.{view, items_view};
 ghost use Rattle.base_text.specs.Loops.{data_seen};
-ghost use Rattle.policy_text.specs.Policies.{policy_number, required_number, item_number, group_after, item_added, policy_groups, groups_value};
+ghost use Rattle.policy_text.specs.Policies.{policy_number, required_number, item_number, item_added, policy_groups, groups_value};
 
 use crate::fault::{PolicyFault, PolicyField};
 use frame_records::{GroupNo, Groups, MOST_GROUPS};
@@ -52,12 +52,12 @@ fn item_number(index: usize, value: &Value) -> Result<u16, PolicyFault>
     }
 }
 
-// Puts a group after the others.
-fn push_group(groups: &mut Groups, index: usize, number: u16) -> Result<(), PolicyFault>
-    requires { 1 ≤ number }
-    ensures { MatchResult result (λ _. group_after index groups.old number ≡ Ok groups.new)
-        (λ e. group_after index groups.old number ≡ Err e) }
+// Puts the group of an item after the others.
+fn add_item(groups: &mut Groups, index: usize, value: &Value) -> Result<(), PolicyFault>
+    ensures { MatchResult result (λ _. item_added index groups.old (view value.now) ≡ Ok groups.new)
+        (λ e. item_added index groups.old (view value.now) ≡ Err e) }
 {
+    let number = item_number(index, value)?;
     if groups.len() >= MOST_GROUPS {
         return Err(PolicyFault::TooManyGroups);
     }
@@ -66,15 +66,6 @@ fn push_group(groups: &mut Groups, index: usize, number: u16) -> Result<(), Poli
     } else {
         Err(PolicyFault::Order(index))
     }
-}
-
-// Puts the group of an item after the others.
-fn add_item(groups: &mut Groups, index: usize, value: &Value) -> Result<(), PolicyFault>
-    ensures { MatchResult result (λ _. item_added index groups.old (view value.now) ≡ Ok groups.new)
-        (λ e. item_added index groups.old (view value.now) ≡ Err e) }
-{
-    let number = item_number(index, value)?;
-    push_group(groups, index, number)
 }
 
 // The groups of items.

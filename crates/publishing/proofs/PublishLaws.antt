@@ -19,7 +19,7 @@ use Rattle.publishing.specs.declared.fault.PublishFault.{PublishFault}
 use Rattle.publishing.specs.declared.status.PublishStatus.{PublishStatus}
 use Rattle.publishing.specs.declared.status.PublishStatus.TheVariants.{Published, Passed, AlreadyServed, Faulty, Refused}
 use Rattle.publishing.specs.Serving.{ServesNow}
-use Rattle.publishing.specs.Publishing.{FollowsServed, IsPublished, IsPublishedBase, IsPublishedFrom, IfPublished}
+use Rattle.publishing.specs.Publishing.{FollowsServed, IsPublished, IsPublishedFrom, IfPublished}
 
 -- an edition may follow what was judged
 pub can_follow : (o : Option FolderState) (served : Option Served) (c : Candidate) (new_callers : Bool) (follows : Option ℕ)
@@ -89,21 +89,16 @@ pub published_after : (a b c : SeenFolder) (base policy : List ℕ) (new_callers
 published_after a b c base policy new_callers r before is =
     published_each r (IsPublished b c base policy new_callers) (IsPublished a c base policy new_callers) (λ n. published_then a b c base policy new_callers n before) is
 
--- the text is that of the source
-pub published_base : (source_old source_new : Seen) (old new : SeenFolder) (base policy : List ℕ) (new_callers : Bool) (r : Result PublishStatus PublishFault)
-    → IsWholeRead (MOST_TEXT + 1) source_old source_new base → IfPublished r (IsPublished old new base policy new_callers) → IfPublished r (IsPublishedBase source_old source_new old new policy new_callers)
-published_base source_old source_new old new base policy new_callers r read is =
-    published_each r (IsPublished old new base policy new_callers) (IsPublishedBase source_old source_new old new policy new_callers) (λ n p. record { base = base; read = read; edition = p }) is
-
--- and the policy is the folder's
-pub published_from : (source_old source_new : Seen) (a b c : SeenFolder) (policy : List ℕ) (new_callers : Bool) (r : Result PublishStatus PublishFault)
-    → LeavesSound a b → IfSome a.state (λ f. f.policy ≡ Some policy) → IfPublished r (IsPublishedBase source_old source_new b c policy new_callers) → IfPublished r (IsPublishedFrom source_old source_new a c new_callers)
-published_from source_old source_new a b c policy new_callers r before there is =
-    published_each r (IsPublishedBase source_old source_new b c policy new_callers) (IsPublishedFrom source_old source_new a c new_callers)
+-- the texts are those of the source and of the folder
+pub published_from : (source_old source_new : Seen) (a b c : SeenFolder) (base policy : List ℕ) (new_callers : Bool) (r : Result PublishStatus PublishFault)
+    → LeavesSound a b → IfSome a.state (λ f. f.policy ≡ Some policy) → IsWholeRead (MOST_TEXT + 1) source_old source_new base
+    → IfPublished r (IsPublished b c base policy new_callers) → IfPublished r (IsPublishedFrom source_old source_new a c new_callers)
+published_from source_old source_new a b c base policy new_callers r before there read is =
+    published_each r (IsPublished b c base policy new_callers) (IsPublishedFrom source_old source_new a c new_callers)
     (λ n p. record {
       policy = policy;
       there = there;
-      base = record { base = p.base; read = p.read; edition = published_then a b c p.base policy new_callers n before p.edition };
+      base = record { base = base; read = read; edition = published_then a b c base policy new_callers n before p };
     })
     is
 

@@ -1,6 +1,8 @@
+use devices::SourceFault;
 use edition_checks::{PutFault, ServedFault};
 use editions::{EditionFile, StoreFault};
 use policy_text::PolicyFault;
+use std::alloc::AllocError;
 use thiserror::Error;
 
 /// Why a publish ends without its work done.
@@ -41,10 +43,38 @@ pub enum PublishFault {
     Memory,
 }
 
-pub(crate) fn store_fault(fault: StoreFault) -> PublishFault {
-    match fault {
-        StoreFault::Broken => PublishFault::Folder,
-        StoreFault::Memory => PublishFault::Memory,
+impl From<AllocError> for PublishFault {
+    fn from(_fault: AllocError) -> PublishFault {
+        PublishFault::Memory
+    }
+}
+
+// A read of the base.
+impl From<SourceFault> for PublishFault {
+    fn from(fault: SourceFault) -> PublishFault {
+        match fault {
+            SourceFault::Broken => PublishFault::ReadBase,
+            SourceFault::Memory => PublishFault::Memory,
+        }
+    }
+}
+
+impl From<StoreFault> for PublishFault {
+    fn from(fault: StoreFault) -> PublishFault {
+        match fault {
+            StoreFault::Broken => PublishFault::Folder,
+            StoreFault::Memory => PublishFault::Memory,
+        }
+    }
+}
+
+impl From<PutFault> for PublishFault {
+    fn from(fault: PutFault) -> PublishFault {
+        match fault {
+            PutFault::Full => PublishFault::Full,
+            PutFault::Folder => PublishFault::Folder,
+            PutFault::Memory => PublishFault::Memory,
+        }
     }
 }
 
@@ -54,13 +84,5 @@ pub(crate) fn served_fault(number: u32, fault: ServedFault) -> PublishFault {
         ServedFault::Unread(file) => PublishFault::Unread(number, file),
         ServedFault::Folder => PublishFault::Folder,
         ServedFault::Memory => PublishFault::Memory,
-    }
-}
-
-pub(crate) fn put_fault(fault: PutFault) -> PublishFault {
-    match fault {
-        PutFault::Full => PublishFault::Full,
-        PutFault::Folder => PublishFault::Folder,
-        PutFault::Memory => PublishFault::Memory,
     }
 }

@@ -5,23 +5,15 @@ ghost use Rattle.policy_text.specs.Policies.{policy_in};
 ghost use Rattle.edition_checks.specs.Served.{IsUnchanged};
 
 use crate::asked::Publish;
-use crate::fault::{PublishFault, store_fault};
+use crate::fault::PublishFault;
 use crate::places::push_policy_fault;
 use checker::Policy;
 use edition_checks::{CandidateFault, Served};
 use editions::EditionStore;
 use finding_forms::{Format, findings_text};
-use lint::{Counts, Finding, lint};
+use lint::{Counts, lint};
 use policy_text::{PolicyFault, policy_read};
-use std::alloc::{AllocError, Global};
-
-/// Adds to what is printed.
-pub(crate) fn say(said: &mut Vec<u8>, text: &[u8]) -> Result<(), PublishFault> {
-    match said.extend_from_slice(text) {
-        Ok(()) => Ok(()),
-        Err(_) => Err(PublishFault::Memory),
-    }
-}
+use std::alloc::Global;
 
 // The fault of a policy's text, after it is printed.
 fn refused_policy(
@@ -49,31 +41,13 @@ pub fn folder_policy<S: EditionStore>(
     ensures there { IfOk result (λ read. IfSome (S.seen store.old).state (λ f. f.policy ≡ Some read.0.items)) }
     ensures is { IfOk result (λ read. policy_in read.0.items ≡ Ok read.1) }
 {
-    let text = match store.read_policy(alloc) {
-        Ok(Some(text)) => text,
-        Ok(None) => return Err(PublishFault::NoPolicy),
-        Err(fault) => return Err(store_fault(fault)),
+    let Some(text) = store.read_policy(alloc)? else {
+        return Err(PublishFault::NoPolicy);
     };
     match policy_read(alloc, text.as_slice()) {
         Ok(policy) => Ok((text, policy)),
         Err(fault) => Err(refused_policy(alloc, said, path, text.as_slice(), fault)),
     }
-}
-
-// Whether findings stop a publish.
-fn do_stop(counts: &Counts, deny_warnings: bool) -> bool {
-    counts.errors > 0 || (deny_warnings && counts.warnings > 0)
-}
-
-fn push_findings(
-    alloc: Global,
-    said: &mut Vec<u8>,
-    path: &str,
-    text: &[u8],
-    findings: &[Finding],
-) -> Result<(), AllocError> {
-    let lines = findings_text(alloc, Format::Full, path.as_bytes(), text, findings)?;
-    said.extend_from_slice(lines.as_slice())
 }
 
 /// Prints the findings of a base's text; their numbers if they stop the publish.
@@ -84,14 +58,15 @@ pub(crate) fn lint_base(
     text: &[u8],
     policy: &Policy,
 ) -> Result<Option<Counts>, PublishFault> {
-    let Ok(findings) = lint(alloc, text, policy) else {
-        return Err(PublishFault::Memory);
-    };
+    let findings = lint(alloc, text, policy)?;
+    let path = asked.base_path.as_bytes();
+    let lines = findings_text(alloc, Format::Full, path, text, findings.as_slice())?;
+    said.extend_from_slice(lines.as_slice())?;
     let counts = Counts::of(findings.as_slice());
-    match push_findings(alloc, said, asked.base_path, text, findings.as_slice()) {
-        Ok(()) if do_stop(&counts, asked.deny_warnings) => Ok(Some(counts)),
-        Ok(()) => Ok(None),
-        Err(_) => Err(PublishFault::Memory),
+    if counts.errors > 0 || (asked.deny_warnings && counts.warnings > 0) {
+        Ok(Some(counts))
+    } else {
+        Ok(None)
     }
 }
 

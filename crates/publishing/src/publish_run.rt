@@ -1,11 +1,9 @@
 //! The run of `publish`.
 
-ghost use Rattle.std.specs.Prelude.{◌≡◌, ◌+◌, true, false, Ok, IfOk, IfSome};
-ghost use Rattle.devices.specs.Devices.{IsWholeRead};
-ghost use Rattle.base_text.specs.declared.limits.TheConstants.{MOST_TEXT};
+ghost use Rattle.std.specs.Prelude.{◌≡◌, true, false, Ok, IfOk, IfSome};
 ghost use Rattle.policy_text.specs.Policies.{policy_in};
 ghost use Rattle.edition_checks.specs.Putting.{LeavesSound, IsToPublish};
-ghost use Rattle.publishing.specs.Publishing.{FollowsServed, IsPublished, IsPublishedBase, IsPublishedFrom, IfPublished};
+ghost use Rattle.publishing.specs.Publishing.{FollowsServed, IsPublished, IsPublishedFrom, IfPublished};
 ghost use Rattle.publishing.specs.Serving.{ServesNow};
 
 use crate::asked::Publish;
@@ -18,7 +16,7 @@ use crate::status::PublishStatus;
 use crate::summary::{push_already, push_edition, push_other_groups, push_refusal, summary};
 use base_text::MOST_TEXT;
 use checker::Policy;
-use devices::{Sink, Source, SourceFault, read_whole, write_whole};
+use devices::{Sink, Source, read_whole, write_whole};
 use edition_checks::{Candidate, Served, make_candidate};
 use editions::EditionStore;
 use std::alloc::Global;
@@ -47,16 +45,10 @@ fn say_done(
 ) -> Result<PublishStatus, PublishFault>
     ensures { IfOk result (λ s. s ≡ status) }
 {
-    let pushed = match status {
-        PublishStatus::Published(number) | PublishStatus::Passed(number) => {
-            push_edition(said, number, summary, note)
-        }
-        _ => Ok(()),
-    };
-    match pushed {
-        Ok(()) => Ok(status),
-        Err(_) => Err(PublishFault::Memory),
+    if let PublishStatus::Published(number) | PublishStatus::Passed(number) = status {
+        push_edition(said, number, summary, note)?;
     }
+    Ok(status)
 }
 
 // An edition that was judged is written, and what was done is printed.
@@ -79,11 +71,9 @@ fn publish_judged<S: EditionStore>(
     ensures sound { LeavesSound (S.seen store.old) (S.seen store.new) }
     ensures dry { asked.now.dry_run ≡ true → (S.seen store.new).state ≡ (S.seen store.old).state }
 {
-    let Ok(summary) = summary(alloc, served, &candidate.base) else {
-        return Err(PublishFault::Memory);
-    };
+    let summary = summary(alloc, served, &candidate.base)?;
     let note = note_of(served, follows, asked.dry_run);
-    match put_unless_dry(
+    let status = put_unless_dry(
         alloc,
         store,
         texts,
@@ -92,10 +82,8 @@ fn publish_judged<S: EditionStore>(
         asked.new_callers,
         follows,
         asked.dry_run,
-    ) {
-        Ok(status) => say_done(said, status, summary.as_slice(), note),
-        Err(fault) => Err(fault),
-    }
+    )?;
+    say_done(said, status, summary.as_slice(), note)
 }
 
 // An edition that the check clears: the change to it is judged.
@@ -120,15 +108,13 @@ fn publish_candidate<S: EditionStore>(
         MayFollow::Follows(follows) => publish_judged(
             alloc, store, said, asked, texts, candidate, served, follows,
         ),
-        MayFollow::OtherGroups(number) => match push_other_groups(said, number) {
-            Ok(()) => Ok(PublishStatus::Refused),
-            Err(_) => Err(PublishFault::Memory),
-        },
+        MayFollow::OtherGroups(number) => {
+            push_other_groups(said, number)?;
+            Ok(PublishStatus::Refused)
+        }
         MayFollow::Refused(verdict) => {
-            match push_refusal(alloc, said, served, &candidate.base, &verdict) {
-                Ok(()) => Ok(PublishStatus::Refused),
-                Err(_) => Err(PublishFault::Memory),
-            }
+            push_refusal(alloc, said, served, &candidate.base, &verdict)?;
+            Ok(PublishStatus::Refused)
         }
     }
 }
@@ -173,33 +159,6 @@ fn publish_texts<S: EditionStore>(
     publish_candidate(alloc, store, said, asked, texts, candidate, served)
 }
 
-// A base's text, unless it is served already.
-fn publish_unless_served<S: EditionStore>(
-    alloc: Global,
-    store: &mut S,
-    said: &mut Vec<u8>,
-    asked: &Publish<'_>,
-    texts: EditionTexts,
-    policy: Policy,
-    served: &Option<Served>,
-) -> Result<PublishStatus, PublishFault>
-    requires held { (S.seen store.old).held ≡ true }
-    requires policy { policy_in texts.policy.items ≡ Ok policy }
-    requires serves { asked.now.dry_run ≡ false → IfSome (S.seen store.old).state (λ f. ServesNow f served.now) }
-    ensures published { IfPublished result (IsPublished (S.seen store.old) (S.seen store.new)
-        texts.base.items texts.policy.items asked.now.new_callers) }
-    ensures sound { LeavesSound (S.seen store.old) (S.seen store.new) }
-    ensures dry { asked.now.dry_run ≡ true → (S.seen store.new).state ≡ (S.seen store.old).state }
-{
-    match number_of_same(served, texts.base.as_slice(), texts.policy.as_slice()) {
-        Some(number) => match push_already(said, number) {
-            Ok(()) => Ok(PublishStatus::AlreadyServed(number)),
-            Err(_) => Err(PublishFault::Memory),
-        },
-        None => publish_texts(alloc, store, said, asked, texts, policy, served),
-    }
-}
-
 // The texts of a base that is published by the folder's policy.
 fn publish_base<S: EditionStore>(
     alloc: Global,
@@ -216,49 +175,15 @@ fn publish_base<S: EditionStore>(
     ensures sound { LeavesSound (S.seen store.old) (S.seen store.new) }
     ensures dry { asked.now.dry_run ≡ true → (S.seen store.new).state ≡ (S.seen store.old).state }
 {
-    match served_edition(alloc, store, asked.dry_run) {
-        Ok(served) => publish_unless_served(alloc, store, said, asked, texts, policy, &served),
-        Err(fault) => Err(fault),
+    let served = served_edition(alloc, store, asked.dry_run)?;
+    if let Some(number) = number_of_same(&served, texts.base.as_slice(), texts.policy.as_slice()) {
+        push_already(said, number)?;
+        return Ok(PublishStatus::AlreadyServed(number));
     }
+    publish_texts(alloc, store, said, asked, texts, policy, &served)
 }
 
-// The text of the base.
-fn base_text<B: Source>(alloc: Global, base: &mut B) -> Result<Vec<u8>, PublishFault>
-    requires { (B.seen base.old).failed ≡ false }
-    ensures { IfOk result (λ text. IsWholeRead (MOST_TEXT + 1) (B.seen base.old) (B.seen base.new) text.items) }
-{
-    match read_whole(alloc, base, MOST_TEXT + 1) {
-        Ok(text) => Ok(text),
-        Err(SourceFault::Broken) => Err(PublishFault::ReadBase),
-        Err(SourceFault::Memory) => Err(PublishFault::Memory),
-    }
-}
-
-// The base of a source, by the folder's policy, which was read with its text.
-fn publish_by<S: EditionStore, B: Source>(
-    alloc: Global,
-    store: &mut S,
-    base: &mut B,
-    said: &mut Vec<u8>,
-    asked: &Publish<'_>,
-    read: (Vec<u8>, Policy),
-) -> Result<PublishStatus, PublishFault>
-    requires held { (S.seen store.old).held ≡ true }
-    requires base_open { (B.seen base.old).failed ≡ false }
-    requires policy { policy_in read.0.items ≡ Ok read.1 }
-    ensures published { IfPublished result (IsPublishedBase (B.seen base.old) (B.seen base.new)
-        (S.seen store.old) (S.seen store.new) read.0.items asked.now.new_callers) }
-    ensures sound { LeavesSound (S.seen store.old) (S.seen store.new) }
-    ensures dry { asked.now.dry_run ≡ true → (S.seen store.new).state ≡ (S.seen store.old).state }
-{
-    let (policy_text, policy) = read;
-    let texts = EditionTexts {
-        base: base_text(alloc, base)?,
-        policy: policy_text,
-    };
-    publish_base(alloc, store, said, asked, texts, policy)
-}
-
+// The base of a source, by the folder's policy.
 fn publish_from<S: EditionStore, B: Source>(
     alloc: Global,
     store: &mut S,
@@ -273,10 +198,13 @@ fn publish_from<S: EditionStore, B: Source>(
     ensures sound { LeavesSound (S.seen store.old) (S.seen store.new) }
     ensures dry { asked.now.dry_run ≡ true → (S.seen store.new).state ≡ (S.seen store.old).state }
 {
-    match folder_policy(alloc, store, said, asked.policy_path) {
-        Ok(read) => publish_by(alloc, store, base, said, asked, read),
-        Err(fault) => Err(fault),
-    }
+    let (policy_text, policy) = folder_policy(alloc, store, said, asked.policy_path)?;
+    let base_text = read_whole(alloc, base, MOST_TEXT + 1)?;
+    let texts = EditionTexts {
+        base: base_text,
+        policy: policy_text,
+    };
+    publish_base(alloc, store, said, asked, texts, policy)
 }
 
 // Writes what there is to print.

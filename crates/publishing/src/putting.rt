@@ -7,7 +7,7 @@ ghost use Rattle.edition_checks.specs.Putting.{IsToPublish, LeavesSound, IsPut};
 ghost use Rattle.publishing.specs.Publishing.{FollowsServed, IfPublished};
 ghost use Rattle.publishing.specs.Serving.{ServesNow};
 
-use crate::fault::{PublishFault, put_fault, store_fault};
+use crate::fault::PublishFault;
 use crate::status::PublishStatus;
 use edition_checks::{Candidate, Served, put_candidate};
 use editions::{EditionStore, next_number};
@@ -39,10 +39,7 @@ fn put<S: EditionStore>(
     ensures sound { LeavesSound (S.seen store.old) (S.seen store.new) }
 {
     let EditionTexts { base, policy } = texts;
-    match put_candidate(alloc, store, base, policy, candidate, follows) {
-        Ok(number) => Ok(number),
-        Err(fault) => Err(put_fault(fault)),
-    }
+    Ok(put_candidate(alloc, store, base, policy, candidate, follows)?)
 }
 
 // The number of the next edition.
@@ -50,13 +47,8 @@ fn number_after<S: EditionStore>(alloc: Global, store: &mut S) -> Result<u32, Pu
     requires { (S.seen store.old).held ≡ true }
     ensures { IsUnchanged (S.seen store.old) (S.seen store.new) }
 {
-    match store.numbers(alloc) {
-        Ok(numbers) => match next_number(numbers.as_slice()) {
-            Some(number) => Ok(number),
-            None => Err(PublishFault::Full),
-        },
-        Err(fault) => Err(store_fault(fault)),
-    }
+    let numbers = store.numbers(alloc)?;
+    next_number(numbers.as_slice()).ok_or(PublishFault::Full)
 }
 
 /// Writes an edition and makes it current, unless nothing may be written.

@@ -11,7 +11,7 @@ ghost use Rattle.edition_checks.specs.Served.{IsUnchanged, IsServed, served_view
 ghost use Rattle.publishing.specs.Loops.{IsLeftAfter};
 ghost use Rattle.publishing.specs.Serving.{IsServedNow, ServesNow};
 
-use crate::fault::{PublishFault, served_fault, store_fault};
+use crate::fault::{PublishFault, served_fault};
 use checker::{ChangeVerdict, Verdict, check, check_change};
 use edition_checks::{Served, ServedFault, read_served, wider_of};
 use editions::{EditionFile, EditionStore, MOST_EDITION, current_in, follows_in, next_number};
@@ -30,10 +30,7 @@ fn remove_left_parts<S: EditionStore>(
     if dry_run {
         return Ok(());
     }
-    match store.remove_parts(alloc) {
-        Ok(()) => Ok(()),
-        Err(fault) => Err(store_fault(fault)),
-    }
+    Ok(store.remove_parts(alloc)?)
 }
 
 // The edition that the text of `current` names.
@@ -66,10 +63,8 @@ fn current_edition<S: EditionStore>(
     ensures unchanged { IsUnchanged (S.seen store.old) (S.seen store.new) }
     ensures serves { IfOk result (λ served. IfSome (S.seen store.old).state (λ f. ServesNow f served)) }
 {
-    let text = match store.read_current(alloc) {
-        Ok(Some(text)) => text,
-        Ok(None) => return Ok(None),
-        Err(fault) => return Err(store_fault(fault)),
+    let Some(text) = store.read_current(alloc)? else {
+        return Ok(None);
     };
     let served = named_edition(alloc, store, text.as_slice())?;
     Ok(Some(served))
@@ -80,12 +75,10 @@ fn greatest_number<S: EditionStore>(alloc: Global, store: &mut S) -> Result<u32,
     requires { (S.seen store.old).held ≡ true }
     ensures { IsUnchanged (S.seen store.old) (S.seen store.new) }
 {
-    match store.numbers(alloc) {
-        Ok(numbers) => match next_number(numbers.as_slice()) {
-            Some(number) => Ok(number.saturating_sub(1)),
-            None => Ok(MOST_EDITION),
-        },
-        Err(fault) => Err(store_fault(fault)),
+    let numbers = store.numbers(alloc)?;
+    match next_number(numbers.as_slice()) {
+        Some(number) => Ok(number.saturating_sub(1)),
+        None => Ok(MOST_EDITION),
     }
 }
 
@@ -101,10 +94,9 @@ fn says_follows<S: EditionStore>(
     ensures says { IfOk result (λ b. b ≡ true → IfSome (S.seen store.old).state
         (λ f. file_at f number Follows ≡ Some (follows_text (Some before)))) }
 {
-    match store.read_file(alloc, number, EditionFile::Follows) {
-        Ok(Some(text)) => Ok(is_follows(text.as_slice(), before)),
-        Ok(None) => Ok(false),
-        Err(fault) => Err(store_fault(fault)),
+    match store.read_file(alloc, number, EditionFile::Follows)? {
+        Some(text) => Ok(is_follows(text.as_slice(), before)),
+        None => Ok(false),
     }
 }
 
@@ -217,10 +209,8 @@ fn make_current<S: EditionStore>(
     if dry_run {
         return Ok(left);
     }
-    match store.set_current(alloc, left.number) {
-        Ok(()) => Ok(left),
-        Err(fault) => Err(store_fault(fault)),
-    }
+    store.set_current(alloc, left.number)?;
+    Ok(left)
 }
 
 // The edition that is served, after one that a stop left is made current.
@@ -274,8 +264,6 @@ pub fn served_edition<S: EditionStore>(
     ensures serves { dry_run ≡ false → IfOk result (λ served. IfSome (S.seen store.new).state
         (λ f. ServesNow f served)) }
 {
-    match remove_left_parts(alloc, store, dry_run) {
-        Ok(()) => served_last(alloc, store, dry_run),
-        Err(fault) => Err(fault),
-    }
+    remove_left_parts(alloc, store, dry_run)?;
+    served_last(alloc, store, dry_run)
 }

@@ -6,25 +6,6 @@ use Rattle.edition_checks.specs.Served.{IsCertOf}
 use Rattle.edition_checks.proofs.FolderReads.{later_then, before, served_there}
 use Rattle.edition_checks.proofs.served.read_edition.Goals as goal
 
-pub returns-in_err-cert-clause-later : goal.returns-in_err-cert-clause-later
-returns-in_err-cert-clause-later g c =
-    let seen = g.F.EditionFolder.seen in
-    later_then (seen c.args.folder.now) (seen c.read_base.new.folder) (seen c.read_cert.new.folder) c.in_ok-base_text.ensures.later c.in_err-cert.ensures.later
-
-pub returns-in_err-policy_text-clause-later : goal.returns-in_err-policy_text-clause-later
-returns-in_err-policy_text-clause-later g c =
-    let seen = g.F.EditionFolder.seen in
-    later_then (seen c.args.folder.now) (seen c.read_cert.new.folder) (seen c.read_policy.new.folder)
-    (later_then (seen c.args.folder.now) (seen c.read_base.new.folder) (seen c.read_cert.new.folder) c.in_ok-base_text.ensures.later c.in_ok-cert.ensures.later)
-    c.in_err-policy_text.ensures.later
-
-pub returns-clause-later : goal.returns-clause-later
-returns-clause-later g c =
-    let seen = g.F.EditionFolder.seen in
-    later_then (seen c.args.folder.now) (seen c.read_cert.new.folder) (seen c.read_policy.new.folder)
-    (later_then (seen c.args.folder.now) (seen c.read_base.new.folder) (seen c.read_cert.new.folder) c.in_ok-base_text.ensures.later c.in_ok-cert.ensures.later)
-    c.in_ok-policy_text.ensures.later
-
 pub returns-clause-served : goal.returns-clause-served
 returns-clause-served g c held =
     let seen = g.F.EditionFolder.seen in

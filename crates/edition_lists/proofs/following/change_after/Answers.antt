@@ -11,3 +11,8 @@ returns-in-Some-clause-after g c none =
     let named : c.in-Some.old.served.number ≡ c.args.number = grind (arith, nat_tests, c.if-old-number.true) in
     after_in seen.state c.in-Some.old c.args.edition.now c.args.number c.requires.before named
     (subst (λ (o : Option KeptEdition). IsKeptBefore seen o) c.in-Some.is c.requires.kept) (c.refused_change.ensures none)
+
+pub returns-in-Ok-clause-after : goal.returns-in-Ok-clause-after
+returns-in-Ok-clause-after g c none =
+    after_in (g.F.EditionFolder.seen c.args.folder.now).state c.in-Ok.old c.args.edition.now c.args.number c.requires.before
+    c.in-Ok.ensures.number c.in-Ok.ensures.kept (c.refused_change-in-Ok.ensures none)

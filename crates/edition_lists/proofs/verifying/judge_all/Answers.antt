@@ -12,12 +12,12 @@ loop-number-preserved g c =
     let i = c.loop-number.number-index in
     let n = get_or numbers i 0 in
     let before = c.loop-number.invariant in
-    let ensures = c.in-Ok.ensures in
+    let ensures = c.in_ok-judged.ensures in
     record {
       held = ensures.unchanged.held;
       same = ensures.unchanged.same ∙ before.same;
       kept = subst (λ (o : Option KeptEdition). IsKeptBefore (seen c.judge_next.new.store) o) (sym c.kept_if_right-before.ensures)
-          (kept_after (seen c.loop-number.store) (seen c.judge_next.new.store) numbers served n c.in-Ok.judged ensures.unchanged.same ensures.right);
+          (kept_after (seen c.loop-number.store) (seen c.judge_next.new.store) numbers served n c.in_ok-judged.judged ensures.unchanged.same ensures.right);
       so_far = found_more (seen c.args.store.now).state (seen c.loop-number.store) numbers served i 0 n c.loop-number.findings.items c.judge_next.new.findings.items
-          c.in-Ok.judged before.same c.loop-number-test.true refl before.so_far ensures.right ensures.added;
+          c.in_ok-judged.judged before.same c.loop-number-test.true refl before.so_far ensures.right ensures.added;
     }

@@ -1,7 +1,7 @@
 -- The widest policy's text, as toml reads it.
-use Rattle.std.proofs.Common.{◌≡◌, ◌<◌, ◌&&◌, ℕ, Bool, false, List, [], ◌∷◌, pos, Some, true, refl, codes, arith, nat_lt}
-use Rattle.std.specs.Prelude.{Ok}
-use Rattle.std.specs.Str.{IsUtf8, IsAscii}
+use Rattle.std.proofs.Common.{◌≡◌, ◌<◌, ◌&&◌, ℕ, Bool, List, [], ◌∷◌, pos, Some, true, refl, codes, arith, nat_lt}
+use Rattle.std.specs.Str.{IsAscii}
+use Rattle.std.proofs.lemmas.Bool.{and_parts}
 use Rattle.std.proofs.lemmas.Bool.Decides.{nat_tests}
 use Rattle.std.proofs.lemmas.Str.{IsUtf8-from_ascii}
 use Rattle.std.proofs.lemmas.Str.Ascii.{IsAscii-nil, IsAscii-cons}
@@ -23,14 +23,10 @@ abbrev are_low : List ℕ → Bool
 are_low [] = true
 are_low (b ∷ bs) = nat_lt b 128 && are_low bs
 
-both_true : (a b : Bool) → a && b ≡ true → (a ≡ true) × (b ≡ true)
-both_true true b h = (refl, h)
-both_true false b h = absurd cc
-
 low : (bs : List ℕ) → are_low bs ≡ true → IsAscii bs
 low [] h = IsAscii-nil
 low (b ∷ bs) h =
-    let both = both_true (nat_lt b 128) (are_low bs) h in
+    let both = and_parts (nat_lt b 128) (are_low bs) h in
     let less : b < 128 = grind (arith, nat_tests, both.0) in
     IsAscii-cons b bs less (low bs both.1)
 
