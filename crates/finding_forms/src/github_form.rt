@@ -117,27 +117,7 @@ fn push_properties(
     push_code(out, code)
 }
 
-// A command without its line feed.
-fn push_command_text(
-    out: &mut Vec<u8>,
-    path: &Line,
-    extent: Extent,
-    level: Level,
-    words: &Words,
-    hint: Option<&Line>,
-) -> Result<(), AllocError>
-    ensures line { OnOk result (out.new.items ≡ out.old.items ++
-        spec.command_text path.now extent level words.now (option_copied hint.entry)) }
-    ensures is_line { OnOk result (IsLine (spec.command_text path.now extent level words.now
-        (option_copied hint.entry))) }
-{
-    out.extend_from_slice(b"::")?;
-    out.extend_from_slice(level_text(level).as_bytes())?;
-    push_properties(out, path, extent, words.code())?;
-    out.extend_from_slice(b"::")?;
-    push_message(out, words, hint)
-}
-
+#[tactic(auto, using(std::proofs::Common::append_assoc))]
 fn push_command_line(
     out: &mut Vec<u8>,
     path: &Line,
@@ -151,7 +131,11 @@ fn push_command_line(
     ensures is_line { OnOk result (IsLine (spec.command_text path.now extent level words.now
         (option_copied hint.entry))) }
 {
-    push_command_text(out, path, extent, level, words, hint)?;
+    out.extend_from_slice(b"::")?;
+    out.extend_from_slice(level_text(level).as_bytes())?;
+    push_properties(out, path, extent, words.code())?;
+    out.extend_from_slice(b"::")?;
+    push_message(out, words, hint)?;
     out.extend_from_slice(b"\n")
 }
 

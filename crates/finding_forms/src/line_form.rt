@@ -88,26 +88,7 @@ pub fn push_words(out: &mut Vec<u8>, words: &Words, hint: Option<&Line>) -> Resu
     push_hint(out, hint)
 }
 
-// A line without its line feed.
-fn push_line_text(
-    out: &mut Vec<u8>,
-    path: &Line,
-    place: (usize, usize),
-    level: Level,
-    words: &Words,
-    hint: Option<&Line>,
-) -> Result<(), AllocError>
-    ensures line { OnOk result (out.new.items ≡ out.old.items ++
-        line_text path.now place level words.now (option_copied hint.entry)) }
-    ensures is_line { OnOk result (IsLine (line_text path.now place level words.now (option_copied hint.entry))) }
-{
-    push_place(out, path, place.0, place.1)?;
-    out.extend_from_slice(b" ")?;
-    out.extend_from_slice(level_text(level).as_bytes())?;
-    out.extend_from_slice(b": ")?;
-    push_words(out, words, hint)
-}
-
+#[tactic(auto, using(std::proofs::Common::append_assoc))]
 fn push_line(
     out: &mut Vec<u8>,
     path: &Line,
@@ -120,7 +101,11 @@ fn push_line(
         (line_text path.now place level words.now (option_copied hint.entry) ++ codes "\n")) }
     ensures is_line { OnOk result (IsLine (line_text path.now place level words.now (option_copied hint.entry))) }
 {
-    push_line_text(out, path, place, level, words, hint)?;
+    push_place(out, path, place.0, place.1)?;
+    out.extend_from_slice(b" ")?;
+    out.extend_from_slice(level_text(level).as_bytes())?;
+    out.extend_from_slice(b": ")?;
+    push_words(out, words, hint)?;
     out.extend_from_slice(b"\n")
 }
 

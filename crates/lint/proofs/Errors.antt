@@ -1,6 +1,6 @@
 -- How many errors there are among findings.
 use Rattle.std.proofs.Common.{◌≡◌, ◌∙◌, ◌+◌, ℕ, Bool, true, false, List, [], ◌∷◌, ◌++◌, length, map, cond, refl, ap, arith}
-use Rattle.std.specs.Prelude.{if◌then◌else◌, Option, Some, None, is_some, ◌==◌, ◌&&◌}
+use Rattle.std.specs.Prelude.{if◌then◌else◌, Option, Some, None, ◌==◌}
 use Rattle.std.proofs.lemmas.List.Sums.{sum_by-cons, sum_by-append}
 use Rattle.std.proofs.lemmas.List.Sorted.{sum_by-IsPermutation}
 use Rattle.frame_records.specs.Bases.{BaseView}
@@ -10,15 +10,13 @@ use Rattle.toml_places.specs.Places.{Mark, marks}
 use Rattle.lint.specs.declared.finding.Level.{Level}
 use Rattle.lint.specs.declared.finding.Level.TheVariants.{Error, Warning}
 use Rattle.lint.specs.Findings.{FindingView, warning_at, same_level, count_of, AreInOrder}
-use Rattle.lint.specs.Lint.{Subject, Length, Toml, Text, Whole, finding_of, ranks_of, finds_none, frame_ids, table_of, unreached, warning, warning_if, unreached_findings, look_in, look_finding, look_findings, fault_finding, text_tables, IsAudited}
+use Rattle.lint.specs.Lint.{Subject, Length, Toml, Text, Whole, finding_of, ranks_of, finds_none, frame_ids, table_of, unreached, warning, warning_if, unreached_findings, look_at, look_words, look_finding, look_findings, fault_finding, text_tables, IsAudited}
 use Rattle.lint_words.specs.FaultWords.{none_reached_words}
-use Rattle.lint_words.specs.WarningWords.{line_end_words, escape_words, shown_escape_words, menu_words, unsought_words}
 use Rattle.lint_words.specs.WordsOf.{WordsView}
 use Rattle.toml_places.specs.declared.spans.Span.{Span}
-use Rattle.lint.specs.Tables.{TableView, table_at}
-use Rattle.lint.specs.Spots.{has_rows, entry_span, single_at, line_end_at, sight_span, shown_field, named_span}
+use Rattle.lint.specs.Tables.{table_at}
+use Rattle.lint.specs.Spots.{entry_span}
 use Rattle.lint.specs.declared.looks.Look.{Look}
-use Rattle.lint.specs.declared.looks.Look.TheVariants.{Hidden, Escape, EndsLine, Shown, Offers, Unsought}
 use Rattle.lint.specs.AllLooks.{all_looks}
 
 abbrev errors : List FindingView → ℕ
@@ -41,31 +39,15 @@ module _ (text : List ℕ) (ms : List Mark) (tables : List (Id × ℕ)) where
   one_warning : (f : FindingView) → f.level ≡ Warning → errors (f ∷ []) ≡ 0
   one_warning f is = one_more f [] ∙ ap (λ (l : Level). cond (same_level l Error) 1 0 + errors []) is
 
-  warning_or_none : (b : Bool) (f : FindingView) → f.level ≡ Warning → errors (if b then f ∷ [] else []) ≡ 0
-  warning_or_none true f is = one_warning f is
-  warning_or_none false f is = refl
-
-  none_or_warning : (b : Bool) (f : FindingView) → f.level ≡ Warning → errors (if b then [] else f ∷ []) ≡ 0
-  none_or_warning true f is = refl
-  none_or_warning false f is = one_warning f is
-
   warning_if_span : (span : Option Span) (words : WordsView) → errors (warning_if span words) ≡ 0
   warning_if_span None words = refl
   warning_if_span (Some span) words = one_warning (warning_at span words) refl
 
-  no_look_error : (table : TableView) (id : Id) (look : Look) → errors (look_in table id look) ≡ 0
-  no_look_error table id (Hidden row) = warning_or_none (has_rows table) _ refl
-  no_look_error table id (Escape row) = warning_if_span (single_at table row) (escape_words id row)
-  no_look_error table id (EndsLine end index) = warning_if_span (line_end_at table end index) (line_end_words id end)
-  no_look_error table id (Shown row at escaped) =
-      none_or_warning (escaped && is_some (single_at table row)) (warning_at (sight_span table row at) (shown_escape_words id row (shown_field table))) refl
-  no_look_error table id (Offers row at digit) = one_warning (warning_at (sight_span table row at) (menu_words id row digit)) refl
-  no_look_error table id (Unsought group) = one_warning (warning_at (named_span table) (unsought_words id group)) refl
-
   no_look_errors : (looks : List (Id × Look)) → errors (look_findings text ms tables looks) ≡ 0
   no_look_errors [] = refl
   no_look_errors (p ∷ ps) =
-      let here : errors (look_finding text ms tables p) ≡ 0 = no_look_error (table_at text ms (Some (table_of tables p.0))) p.0 p.1 in
+      let table = table_at text ms (Some (table_of tables p.0)) in
+      let here : errors (look_finding text ms tables p) ≡ 0 = warning_if_span (look_at table p.1) (look_words table p.0 p.1) in
       let both : errors (look_findings text ms tables (p ∷ ps)) ≡ errors (look_finding text ms tables p) + errors (look_findings text ms tables ps) =
       sum_by-append (λ (g : FindingView). cond (same_level g.level Error) 1 0) (look_finding text ms tables p) (look_findings text ms tables ps) in
       omega (arith, both, here, no_look_errors ps)

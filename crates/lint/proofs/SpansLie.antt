@@ -1,6 +1,7 @@
 -- Every span of a finding lies in the text.
 use Rattle.std.proofs.Common.{◌≡◌, ℕ, zero, suc, ◌+◌, ◌-◌, Bool, true, false, cond, nat_lt, List, [], ◌∷◌, length, map, get_or, Option, Some, None, unwrap_or, option_map, option_and_then, le_refl, refl, sym, subst, arith}
-use Rattle.std.specs.Prelude.{All, codes, is_some, ◌++◌, ◌==◌, ◌&&◌, slice_get, if◌then◌else◌}
+use Rattle.std.specs.Prelude.{All, codes, is_some, not, ◌++◌, ◌==◌, ◌&&◌, slice_get, if◌then◌else◌}
+use Rattle.std.specs.Bool.{then_some}
 use Rattle.std.specs.Option.{option_or}
 use Rattle.std.proofs.lemmas.List.Elements.{All-map, All-append}
 use Rattle.std.proofs.lemmas.List.Sorted.{All-permutation}
@@ -23,9 +24,9 @@ use Rattle.base_text.specs.Whole.{tree_of}
 use Rattle.base_text.specs.Drafts.{draft_of}
 use Rattle.checker.specs.declared.policy.Policy.{Policy}
 use Rattle.frame_records.specs.Bases.{BaseView}
-use Rattle.fault_scripts.specs.declared.fault.Fault.{Fault}
-use Rattle.fault_scripts.specs.declared.fault.FaultKind.{FaultKind}
-use Rattle.fault_scripts.specs.declared.fault.FaultKind.TheVariants as fault_kind
+use Rattle.base_faults.specs.declared.fault.Fault.{Fault}
+use Rattle.base_faults.specs.declared.fault.FaultKind.{FaultKind}
+use Rattle.base_faults.specs.declared.fault.FaultKind.TheVariants as fault_kind
 use Rattle.toml.specs.Data.{Members}
 use Rattle.toml_places.specs.declared.spans.Span.{Span}
 use Rattle.toml_places.specs.declared.spans.KeyPlace.{KeyPlace}
@@ -42,11 +43,10 @@ use Rattle.lint.specs.Tables.{TableView, is_in_line, value_at, element_at, frame
 use Rattle.frame_records.specs.declared.limits.TheConstants.{MOST_LISTED}
 use Rattle.lint.specs.Outside.{is_page, page_in_span, element_if, page_from, page_at, outside_element}
 use Rattle.lint.specs.Spots.{span_of_key, span_of_pair, key_of, span_of_value, route_key, route_pair, item_of, char_of, later, unknown_at, digit_at, is_routes, listed_at, span_of_row, body_char, absent_at, detail_at, detail_span, has_rows, shown_at, whole_at, whole_span, pressed_at, byte_at, touched_at, kind_at, audit_span, row_span, entry_span, is_this_byte, is_one, feed_span, ended_span, line_end_at, single_span, single_at, byte_written, sight_span, named_span, kind_table, whole_table}
-use Rattle.lint.specs.Lint.{Subject, Length, Toml, Text, Whole, finding_of, faulty, IsSpanWithin, AreSubjects, AreSubjectsIf, AreTreeSubjects, IsJudgedBy, text_tables, warning, warning_if, unreached_findings, look_in, look_finding, look_findings, fault_finding, ranks_of, finds_none, frame_ids, unreached, table_of, text_finding, whole_finding, IsAudited}
+use Rattle.lint.specs.Lint.{Subject, Length, Toml, Text, Whole, finding_of, faulty, IsSpanWithin, AreSubjects, AreSubjectsIf, AreTreeSubjects, IsJudgedBy, text_tables, warning, warning_if, unreached_findings, look_at, look_words, look_finding, look_findings, fault_finding, ranks_of, finds_none, frame_ids, unreached, table_of, text_finding, whole_finding, IsAudited}
 use Rattle.lint_words.specs.FaultWords.{none_reached_words}
 use Rattle.lint_words.specs.declared.warning_words.LineEnd.{LineEnd}
 use Rattle.lint_words.specs.declared.warning_words.LineEnd.TheVariants.{Feed, Return}
-use Rattle.lint_words.specs.WarningWords.{line_end_words, escape_words}
 use Rattle.lint_words.specs.WordsOf.{WordsView}
 use Rattle.lint.specs.declared.looks.Look.{Look}
 use Rattle.lint.specs.declared.looks.Look.TheVariants.{Hidden, Escape, EndsLine, Shown, Offers, Unsought}
@@ -306,12 +306,16 @@ module _ (text : List ℕ) where
   entry_lies : IsSpanWithin text (entry_span (table_at text (marks text) None))
   entry_lies = let t = table_at text (marks text) None in in_table None (span_of_value t (codes "entry")) (value_of_lies t (items_lie None) (codes "entry"))
 
+  some_lies : (b : Bool) (s : Span) → IsSpanWithin text s → Lies text (then_some b s)
+  some_lies true s lies = lies
+  some_lies false s lies = tt
+
   single_lies : (frame : Option ℕ) (n : ℕ) → Lies text (single_at (table_at text (marks text) frame) n)
   single_lies frame n =
       let t = table_at text (marks text) frame in on (t.item (n - 1)) (items_lie frame (n - 1)) where
         on : (o : Option Span) → Lies text o → Lies text (option_and_then (single_span text) o)
         on None lies = tt
-        on (Some s) lies = if_lies text (is_this_byte 0x27 (slice_get text s.begin)) (Some s) None lies tt
+        on (Some s) lies = some_lies (is_this_byte 0x27 (slice_get text s.begin)) s lies
 
   kept_lies : (keep : Span → Option Span) → ((s : Span) → IsSpanWithin text s → Lies text (keep s)) → (o : Option Span) → Lies text o → Lies text (option_and_then keep o)
   kept_lies keep keeps None lies = tt
@@ -319,13 +323,13 @@ module _ (text : List ℕ) where
 
   ended_lies : (end : LineEnd) (s : Span) → IsSpanWithin text s → Lies text (ended_span end text s)
   ended_lies Feed s lies = lies
-  ended_lies Return s lies = if_lies text (is_this_byte 0x0D (slice_get text (s.begin - 1))) (Some s) None lies tt
+  ended_lies Return s lies = some_lies (is_this_byte 0x0D (slice_get text (s.begin - 1))) s lies
 
   line_end_lies : (frame : Option ℕ) (end : LineEnd) (k : ℕ) → Lies text (line_end_at (table_at text (marks text) frame) end k)
   line_end_lies frame end k =
       let t = table_at text (marks text) frame in
       kept_lies (ended_span end text) (ended_lies end) (option_and_then (feed_span text) (body_char t k))
-      (kept_lies (feed_span text) (λ s lies. if_lies text (is_one s && is_this_byte 0x0A (slice_get text s.begin)) (Some s) None lies tt) (body_char t k)
+      (kept_lies (feed_span text) (λ s lies. some_lies (is_one s && is_this_byte 0x0A (slice_get text s.begin)) s lies) (body_char t k)
       (body_char_lies t (items_lie frame) k))
 
   written_lies : (frame at : Option ℕ) → Lies text (byte_written (table_at text (marks text) frame) at)
@@ -348,33 +352,26 @@ module _ (text : List ℕ) where
   none_lie : AllLie []
   none_lie = All-map (λ f. IsSpanWithin text f.span) (λ (f : FindingView). f) [] (λ k d lt. absurd (omega (arith, lt)))
 
-  one_or_none : (b : Bool) (f : FindingView) → IsSpanWithin text f.span → AllLie (if b then f ∷ [] else [])
-  one_or_none true f lies = one_lie f lies
-  one_or_none false f lies = none_lie
-
-  none_or_one : (b : Bool) (f : FindingView) → IsSpanWithin text f.span → AllLie (if b then [] else f ∷ [])
-  none_or_one true f lies = none_lie
-  none_or_one false f lies = one_lie f lies
-
   if_span_lies : (o : Option Span) (words : WordsView) → Lies text o → AllLie (warning_if o words)
   if_span_lies None words lies = none_lie
   if_span_lies (Some s) words lies = one_lie (warning_at s words) lies
 
-  look_lies : (frame : Option ℕ) (id : Id) (look : Look) → AllLie (look_in (table_at text (marks text) frame) id look)
-  look_lies frame id (Hidden row) = one_or_none (has_rows (table_at text (marks text) frame)) _ (row_span_lies frame row)
-  look_lies frame id (Escape row) = if_span_lies (single_at (table_at text (marks text) frame) row) (escape_words id row) (single_lies frame row)
-  look_lies frame id (EndsLine end k) =
-      if_span_lies (line_end_at (table_at text (marks text) frame) end k) (line_end_words id end) (line_end_lies frame end k)
-  look_lies frame id (Shown row at escaped) =
-      none_or_one (escaped && is_some (single_at (table_at text (marks text) frame) row)) _ (sight_lies frame row at)
-  look_lies frame id (Offers row at digit) = one_lie _ (sight_lies frame row at)
-  look_lies frame id (Unsought group) = one_lie _ (named_lies frame)
+  look_lies : (frame : Option ℕ) (look : Look) → Lies text (look_at (table_at text (marks text) frame) look)
+  look_lies frame (Hidden row) =
+      some_lies (has_rows (table_at text (marks text) frame)) _ (row_span_lies frame row)
+  look_lies frame (Escape row) = single_lies frame row
+  look_lies frame (EndsLine end k) = line_end_lies frame end k
+  look_lies frame (Shown row at escaped) =
+      some_lies (not (escaped && is_some (single_at (table_at text (marks text) frame) row))) _ (sight_lies frame row at)
+  look_lies frame (Offers row at digit) = sight_lies frame row at
+  look_lies frame (Unsought group) = named_lies frame
 
   looks_lie : (looks : List (Id × Look)) → AllLie (look_findings text (marks text) (text_tables text) looks)
   looks_lie [] = none_lie
   looks_lie (p ∷ ps) =
+      let t = table_at text (marks text) (Some (table_of (text_tables text) p.0)) in
       All-append (λ f. IsSpanWithin text f.span) (look_finding text (marks text) (text_tables text) p) (look_findings text (marks text) (text_tables text) ps)
-      (look_lies (Some (table_of (text_tables text) p.0)) p.0 p.1) (looks_lie ps)
+      (if_span_lies (look_at t p.1) (look_words t p.0 p.1) (look_lies (Some (table_of (text_tables text) p.0)) p.1)) (looks_lie ps)
 
   unreached_lie : (none : Bool) (ids : List Id) → AllLie (unreached_findings text (marks text) (text_tables text) none ids)
   unreached_lie true ids = on (length ids == 0) where

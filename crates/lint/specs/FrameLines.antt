@@ -5,7 +5,7 @@ use Rattle.page_ids.specs.Ids.{Id}
 use Rattle.frame_records.specs.Bases.{BaseView}
 use Rattle.finder.specs.declared.found.Discovered.{Discovered}
 use Rattle.checker.specs.declared.policy.Policy.{Policy}
-use Rattle.fault_scripts.specs.declared.fault.Fault.{Fault}
+use Rattle.base_faults.specs.declared.fault.Fault.{Fault}
 use Rattle.toml_places.specs.Places.{Mark, marks}
 use Rattle.toml_places.specs.Skips.{place_at}
 use Rattle.lint_words.specs.declared.fault_words.Judged.{Judged}

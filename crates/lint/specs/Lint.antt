@@ -1,5 +1,6 @@
 -- Every finding of a text.
-use Rattle.std.specs.Prelude.{◌≡◌, ◌≤◌, ℕ, ◌==◌, Bool, true, false, ◌&&◌, List, [], ◌∷◌, ◌++◌, map, flat_map, if◌then◌else◌, Option, Some, None, unwrap_or, is_some, is_none, option_and_then, nat_lt, length, filter}
+use Rattle.std.specs.Prelude.{◌≡◌, ◌≤◌, ℕ, ◌==◌, Bool, true, false, not, ◌&&◌, List, [], ◌∷◌, ◌++◌, map, flat_map, if◌then◌else◌, Option, Some, None, unwrap_or, is_some, is_none, option_and_then, nat_lt, length, filter}
+use Rattle.std.specs.Bool.{then_some}
 use Rattle.page_ids.specs.Ids.{Id}
 use Rattle.frame_records.specs.declared.frame.Frame.{Frame}
 use Rattle.frame_records.specs.Bases.{BaseView, frame_at}
@@ -7,7 +8,7 @@ use Rattle.frame_records.specs.Seek.{is_open}
 use Rattle.checker.specs.declared.policy.Policy.{Policy}
 use Rattle.finder.specs.declared.found.Discovered.{Discovered}
 use Rattle.finder.specs.Finds.{FindsReached, RanksAreLeast}
-use Rattle.fault_scripts.specs.declared.fault.Fault.{Fault}
+use Rattle.base_faults.specs.declared.fault.Fault.{Fault}
 use Rattle.fault_scripts.specs.Faults.{AreFaults}
 use Rattle.toml_places.specs.declared.spans.Span.{Span}
 use Rattle.toml_places.specs.Places.{Mark, marks}
@@ -100,15 +101,26 @@ abbrev pub warning_if : Option Span → WordsView → List FindingView
 warning_if None words = []
 warning_if (Some span) words = warning_at span words ∷ []
 
--- the warning of what may be wrong with the frame of this table, if the text writes it so
+-- where the text writes what may be wrong with the frame of this table, if it does
+abbrev pub look_at : TableView → Look → Option Span
+look_at table (Hidden row) = then_some (has_rows table) (row_span table row)
+look_at table (Escape row) = single_at table row
+look_at table (EndsLine end index) = line_end_at table end index
+look_at table (Shown row at escaped) = then_some (not (escaped && is_some (single_at table row))) (sight_span table row at)
+look_at table (Offers row at digit) = Some (sight_span table row at)
+look_at table (Unsought group) = Some (named_span table)
+
+abbrev pub look_words : TableView → Id → Look → WordsView
+look_words table id (Hidden row) = hidden_words id row
+look_words table id (Escape row) = escape_words id row
+look_words table id (EndsLine end index) = line_end_words id end
+look_words table id (Shown row at escaped) = shown_escape_words id row (shown_field table)
+look_words table id (Offers row at digit) = menu_words id row digit
+look_words table id (Unsought group) = unsought_words id group
+
+-- the warning of it
 abbrev pub look_in : TableView → Id → Look → List FindingView
-look_in table id (Hidden row) = if has_rows table then warning_at (row_span table row) (hidden_words id row) ∷ [] else []
-look_in table id (Escape row) = warning_if (single_at table row) (escape_words id row)
-look_in table id (EndsLine end index) = warning_if (line_end_at table end index) (line_end_words id end)
-look_in table id (Shown row at escaped) =
-    if escaped && is_some (single_at table row) then [] else warning_at (sight_span table row at) (shown_escape_words id row (shown_field table)) ∷ []
-look_in table id (Offers row at digit) = warning_at (sight_span table row at) (menu_words id row digit) ∷ []
-look_in table id (Unsought group) = warning_at (named_span table) (unsought_words id group) ∷ []
+look_in table id look = warning_if (look_at table look) (look_words table id look)
 
 abbrev pub look_finding : List ℕ → List Mark → List (Id × ℕ) → Id × Look → List FindingView
 look_finding text ms tables p = look_in (table_at text ms (Some (table_of tables p.0))) p.0 p.1

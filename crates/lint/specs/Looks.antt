@@ -26,16 +26,11 @@ abbrev pub holds_escape : List ℕ → Bool
 holds_escape [] = false
 holds_escape (b ∷ bs) = begins_escape (b ∷ bs) || holds_escape bs
 
--- a row with the frame, if its text is hidden
-abbrev pub hidden_if : Id → List ℕ → ℕ → List (Id × Look)
-hidden_if id cells r = if hides_text cells r then (id, Hidden r) ∷ [] else []
-
--- a row with the frame, if it holds \u00
-abbrev pub escape_if : Id → List ℕ → ℕ → List (Id × Look)
-escape_if id cells r = if holds_escape (codes_of_row cells r) then (id, Escape r) ∷ [] else []
-
+-- a row with the frame, if its text is hidden, and if it holds \u00
 abbrev pub row_warnings : Id → List ℕ → ℕ → List (Id × Look)
-row_warnings id cells r = hidden_if id cells r ++ escape_if id cells r
+row_warnings id cells r =
+    (if hides_text cells r then (id, Hidden r) ∷ [] else []) ++
+    (if holds_escape (codes_of_row cells r) then (id, Escape r) ∷ [] else [])
 
 -- those of the rows of a screen, from 1 to this number
 unfoldable pub rows_up_to : Id → List ℕ → ℕ → List (Id × Look)

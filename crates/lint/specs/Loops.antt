@@ -11,7 +11,7 @@ use Rattle.lint.specs.AllLooks.{all_looks}
 use Rattle.lint.specs.Lint.{Toml, ranks_of, unreached, finds_none, frame_ids, finding_of, IsSpanWithin}
 use Rattle.indexmap.specs.IndexMap.{get}
 use Rattle.page_ids.specs.Ids.{Id}
-use Rattle.fault_scripts.specs.declared.fault.Fault.{Fault}
+use Rattle.base_faults.specs.declared.fault.Fault.{Fault}
 use Rattle.lint.specs.declared.looks.Look.{Look}
 use Rattle.toml_places.specs.Places.{Mark, kept_route, kept_key, key_in, route_in, first_spot, routes_key, Keeps}
 use Rattle.lint.specs.declared.audit_findings.Sources.{Sources}

@@ -1,6 +1,7 @@
 -- The span of a fault: of the smallest piece of a text that is at fault. If that can't be found, it is that of a larger one, up to
 -- the whole table.
 use Rattle.std.specs.Prelude.{ℕ, ◌-◌, ◌==◌, ◌&&◌, nat_lt, Bool, true, false, if◌then◌else◌, List, slice_get, codes, Option, Some, None, is_some, unwrap_or, option_map}
+use Rattle.std.specs.Bool.{then_some}
 use Rattle.std.specs.Option.{option_or}
 use Rattle.page_ids.specs.declared.key.Key.{Key}
 use Rattle.page_ids.specs.declared.key.Key.TheVariants as key
@@ -15,9 +16,9 @@ use Rattle.base_text.specs.declared.detail.Detail.{Detail}
 use Rattle.base_text.specs.declared.detail.Detail.TheVariants.{UnknownKey, Absent, WrongKind, WrongItem, Number, ItemNumber, Lead, BodyCode, MoreBodyCodes, TooManyRows, BodyAndRows, RowTooLong, RowCode, MoreRowCodes, BadFrame}
 use Rattle.base_text.specs.declared.whole_fault.WholeFault.{WholeFault}
 use Rattle.base_text.specs.declared.whole_fault.WholeFault.TheVariants.{TooManyFrames, TooManyOutside, BodyTooLong, NextAfterZ, Duplicate, OutsideInside}
-use Rattle.fault_scripts.specs.declared.fault.Fault.{Fault}
-use Rattle.fault_scripts.specs.declared.fault.FaultKind.{FaultKind}
-use Rattle.fault_scripts.specs.declared.fault.FaultKind.TheVariants as fault_kind
+use Rattle.base_faults.specs.declared.fault.Fault.{Fault}
+use Rattle.base_faults.specs.declared.fault.FaultKind.{FaultKind}
+use Rattle.base_faults.specs.declared.fault.FaultKind.TheVariants as fault_kind
 use Rattle.lint_words.specs.declared.warning_words.LineEnd.{LineEnd}
 use Rattle.lint_words.specs.declared.warning_words.LineEnd.TheVariants.{Feed, Return}
 use Rattle.toml_places.specs.Steps.{◌>>=◌}
@@ -202,11 +203,11 @@ is_one s = nat_lt s.begin s.end && (s.end - s.begin == 1)
 
 -- a span that is a line feed of the text
 abbrev pub feed_span : List ℕ → Span → Option Span
-feed_span text s = if is_one s && is_this_byte 0x0A (slice_get text s.begin) then Some s else None
+feed_span text s = then_some (is_one s && is_this_byte 0x0A (slice_get text s.begin)) s
 
 -- a span of the text that has a carriage return before it
 abbrev pub returned_span : List ℕ → Span → Option Span
-returned_span text s = if is_this_byte 0x0D (slice_get text (s.begin - 1)) then Some s else None
+returned_span text s = then_some (is_this_byte 0x0D (slice_get text (s.begin - 1))) s
 
 -- a line's end in this way
 abbrev pub ended_span : LineEnd → List ℕ → Span → Option Span
@@ -219,7 +220,7 @@ line_end_at t end k = (body_char t k >>= feed_span t.text) >>= ended_span end t.
 
 -- a span of the text that begins with a single quotation mark
 abbrev pub single_span : List ℕ → Span → Option Span
-single_span text s = if is_this_byte 0x27 (slice_get text s.begin) then Some s else None
+single_span text s = then_some (is_this_byte 0x27 (slice_get text s.begin)) s
 
 -- a row, by its number from 1, in single quotation marks
 abbrev pub single_at : TableView → ℕ → Option Span

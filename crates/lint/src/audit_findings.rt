@@ -3,7 +3,6 @@ ghost use Rattle.page_ids.specs.Ids.{Id};
 ghost use Rattle.toml_places.specs.Places.{Mark};
 ghost use Rattle.lint.specs.Loops.{KnowsTables, IsTable, table_seen};
 ghost use Rattle.lint.specs.Lookups.{KnowsValues};
-ghost use Rattle.lint.specs.declared.looks.Look.TheVariants.{Hidden, Escape, EndsLine, Shown, Offers, Unsought};
 ghost use Rattle.lint.specs.Lint as spec;
 ghost use Rattle.lint.specs.Loops as loops;
 
@@ -21,11 +20,12 @@ use fault_scripts::{Fault, FaultList, faults_surveyed};
 use finder::{Discovered, Survey};
 use frame_records::{Base, Frame, GroupNo, Groups};
 use lint_words::{
-    Judged, LineEnd, audit_fault_words, escape_words, hidden_words, line_end_words, menu_words,
+    Judged, Words, audit_fault_words, escape_words, hidden_words, line_end_words, menu_words,
     none_reached_words, shown_escape_words, unreached_words, unsought_words,
 };
 use page_ids::{FrameId, Letter};
 use std::alloc::{AllocError, Global};
+use toml_places::Span;
 
 // The fewest keys from each frame that is reached back to the entry frame.
 pub type Ranks = Lookup<Option<u16>>;
@@ -151,107 +151,40 @@ pub fn rank_of(ranks: &Ranks, id: FrameId) -> Option<u16>
     ranks.get(id)?
 }
 
-// Appends the warning of a row whose text is hidden, if the frame is given as rows.
-fn add_hidden(
-    alloc: Global,
-    table: &TableSpots<'_>,
-    id: FrameId,
-    row: usize,
-    findings: &mut Vec<Finding>,
-) -> Result<(), AllocError>
-    ensures { OnOk result (findings.new.items
-        ≡ findings.old.items ++ spec.look_in (table_seen table.now) id (Hidden row)) }
+// Where the text writes what may be wrong with a frame: a hidden row if the frame is given as rows, and a row that shows an
+// escape unless the warning of one in single quotation marks says so.
+fn look_at(table: &TableSpots<'_>, look: &Look) -> Option<Span>
+    ensures { result ≡ spec.look_at (table_seen table.now) look.now }
 {
-    if has_rows(table) {
-        let words = hidden_words(alloc, id, row)?;
-        findings.push(Finding::warning(row_span(table, row), words))?;
+    match look {
+        Look::Hidden(row) => has_rows(table).then_some(row_span(table, *row)),
+        Look::Escape(row) => single_at(table, *row),
+        Look::EndsLine(end, index) => line_end_at(table, *end, *index),
+        Look::Shown(row, index, escaped) => {
+            let is_said = *escaped && single_at(table, *row).is_some();
+            (!is_said).then_some(sight_span(table, *row, *index))
+        }
+        Look::Offers(row, index, _) => Some(sight_span(table, *row, *index)),
+        Look::Unsought(_) => Some(named_span(table)),
     }
-    Ok(())
 }
 
-fn add_escape(
+fn look_words(
     alloc: Global,
     table: &TableSpots<'_>,
     id: FrameId,
-    row: usize,
-    findings: &mut Vec<Finding>,
-) -> Result<(), AllocError>
-    ensures { OnOk result (findings.new.items
-        ≡ findings.old.items ++ spec.look_in (table_seen table.now) id (Escape row)) }
+    look: &Look,
+) -> Result<Words, AllocError>
+    ensures { IfOk result (λ words. words ≡ spec.look_words (table_seen table.now) id look.now) }
 {
-    if let Some(span) = single_at(table, row) {
-        findings.push(Finding::warning(span, escape_words(alloc, id, row)?))?;
+    match look {
+        Look::Hidden(row) => hidden_words(alloc, id, *row),
+        Look::Escape(row) => escape_words(alloc, id, *row),
+        Look::EndsLine(end, _) => line_end_words(alloc, id, *end),
+        Look::Shown(row, _, _) => shown_escape_words(alloc, id, *row, shown_field(table)),
+        Look::Offers(row, _, digit) => menu_words(alloc, id, *row, *digit),
+        Look::Unsought(group) => unsought_words(alloc, id, *group),
     }
-    Ok(())
-}
-
-fn add_line_end(
-    alloc: Global,
-    table: &TableSpots<'_>,
-    id: FrameId,
-    end: LineEnd,
-    index: usize,
-    findings: &mut Vec<Finding>,
-) -> Result<(), AllocError>
-    ensures { OnOk result (findings.new.items
-        ≡ findings.old.items ++ spec.look_in (table_seen table.now) id (EndsLine end index)) }
-{
-    if let Some(span) = line_end_at(table, end, index) {
-        findings.push(Finding::warning(span, line_end_words(alloc, id, end)?))?;
-    }
-    Ok(())
-}
-
-// Appends the warning of a row that shows an escape, unless that of one in single quotation marks says so.
-fn add_shown_escape(
-    alloc: Global,
-    table: &TableSpots<'_>,
-    id: FrameId,
-    row: usize,
-    index: Option<usize>,
-    escaped: bool,
-    findings: &mut Vec<Finding>,
-) -> Result<(), AllocError>
-    ensures { OnOk result (findings.new.items
-        ≡ findings.old.items ++ spec.look_in (table_seen table.now) id (Shown row index escaped)) }
-{
-    if !(escaped && single_at(table, row).is_some()) {
-        let words = shown_escape_words(alloc, id, row, shown_field(table))?;
-        findings.push(Finding::warning(sight_span(table, row, index), words))?;
-    }
-    Ok(())
-}
-
-fn add_menu(
-    alloc: Global,
-    table: &TableSpots<'_>,
-    id: FrameId,
-    row: usize,
-    index: Option<usize>,
-    digit: u8,
-    findings: &mut Vec<Finding>,
-) -> Result<(), AllocError>
-    ensures { OnOk result (findings.new.items
-        ≡ findings.old.items ++ spec.look_in (table_seen table.now) id (Offers row index digit)) }
-{
-    let words = menu_words(alloc, id, row, digit)?;
-    findings.push(Finding::warning(sight_span(table, row, index), words))?;
-    Ok(())
-}
-
-fn add_unsought(
-    alloc: Global,
-    table: &TableSpots<'_>,
-    id: FrameId,
-    group: GroupNo,
-    findings: &mut Vec<Finding>,
-) -> Result<(), AllocError>
-    ensures { OnOk result (findings.new.items
-        ≡ findings.old.items ++ spec.look_in (table_seen table.now) id (Unsought group)) }
-{
-    let words = unsought_words(alloc, id, group)?;
-    findings.push(Finding::warning(named_span(table), words))?;
-    Ok(())
 }
 
 // Appends the warning of what may be wrong with a frame, if the text writes it so.
@@ -264,18 +197,10 @@ fn add_look(
 ) -> Result<(), AllocError>
     ensures { OnOk result (findings.new.items ≡ findings.old.items ++ spec.look_in (table_seen table.now) id look.now) }
 {
-    match look {
-        Look::Hidden(row) => add_hidden(alloc, table, id, *row, findings),
-        Look::Escape(row) => add_escape(alloc, table, id, *row, findings),
-        Look::EndsLine(end, index) => add_line_end(alloc, table, id, *end, *index, findings),
-        Look::Shown(row, index, escaped) => {
-            add_shown_escape(alloc, table, id, *row, *index, *escaped, findings)
-        }
-        Look::Offers(row, index, digit) => {
-            add_menu(alloc, table, id, *row, *index, *digit, findings)
-        }
-        Look::Unsought(group) => add_unsought(alloc, table, id, *group, findings),
+    if let Some(span) = look_at(table, look) {
+        findings.push(Finding::warning(span, look_words(alloc, table, id, look)?))?;
     }
+    Ok(())
 }
 
 impl<'a> Sources<'a> {

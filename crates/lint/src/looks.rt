@@ -51,35 +51,6 @@ pub fn holds_escape(codes: &[u8]) -> bool
     }
 }
 
-fn add_hidden(
-    frame: FrameId,
-    cells: &[u8; 960],
-    row: usize,
-    looks: &mut Vec<(FrameId, Look)>,
-) -> Result<(), AllocError>
-    ensures { OnOk result (looks.new.items ≡ looks.old.items ++ spec.hidden_if frame cells.now row) }
-{
-    if hides_text(cells, row) {
-        looks.push((frame, Look::Hidden(row)))?;
-    }
-    Ok(())
-}
-
-fn add_escape(
-    frame: FrameId,
-    cells: &[u8; 960],
-    row: usize,
-    looks: &mut Vec<(FrameId, Look)>,
-) -> Result<(), AllocError>
-    requires { row < 24 }
-    ensures { OnOk result (looks.new.items ≡ looks.old.items ++ spec.escape_if frame cells.now row) }
-{
-    if holds_escape(row_codes(cells, row)) {
-        looks.push((frame, Look::Escape(row)))?;
-    }
-    Ok(())
-}
-
 fn add_row(
     frame: FrameId,
     cells: &[u8; 960],
@@ -89,8 +60,13 @@ fn add_row(
     requires { row < 24 }
     ensures { OnOk result (looks.new.items ≡ looks.old.items ++ spec.row_warnings frame cells.now row) }
 {
-    add_hidden(frame, cells, row, looks)?;
-    add_escape(frame, cells, row, looks)
+    if hides_text(cells, row) {
+        looks.push((frame, Look::Hidden(row)))?;
+    }
+    if holds_escape(row_codes(cells, row)) {
+        looks.push((frame, Look::Escape(row)))?;
+    }
+    Ok(())
 }
 
 // Appends what may be wrong with the rows of a screen, from 1 to 22.

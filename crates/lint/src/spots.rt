@@ -381,22 +381,14 @@ fn is_one(span: Span) -> bool
 fn feed_span(text: &str, span: Span) -> Option<Span>
     ensures { result ≡ spec.feed_span text.now span }
 {
-    if is_one(span) && has_byte(text, span.begin, b'\n') {
-        Some(span)
-    } else {
-        None
-    }
+    (is_one(span) && has_byte(text, span.begin, b'\n')).then_some(span)
 }
 
 // The span, if the text has a carriage return before it.
 fn returned_span(text: &str, span: Span) -> Option<Span>
     ensures { result ≡ spec.returned_span text.now span }
 {
-    if has_byte(text, span.begin.saturating_sub(1), b'\r') {
-        Some(span)
-    } else {
-        None
-    }
+    has_byte(text, span.begin.saturating_sub(1), b'\r').then_some(span)
 }
 
 // The code of the body at an index, if the text writes a line's end there in this way.
@@ -414,11 +406,7 @@ pub fn line_end_at(table: &TableSpots<'_>, end: LineEnd, index: usize) -> Option
 fn single_span(text: &str, span: Span) -> Option<Span>
     ensures { result ≡ spec.single_span text.now span }
 {
-    if has_byte(text, span.begin, b'\'') {
-        Some(span)
-    } else {
-        None
-    }
+    has_byte(text, span.begin, b'\'').then_some(span)
 }
 
 // A row, by its number from 1, in single quotation marks.

@@ -1,5 +1,5 @@
 -- The words of a fault of a base's text.
-use Rattle.std.specs.Prelude.{ℕ, ℤ, Bool, true, false, ◌==◌, if◌then◌else◌, List, ◌++◌, codes, Option, Some, None}
+use Rattle.std.specs.Prelude.{ℕ, ℤ, Bool, true, false, ◌==◌, if◌then◌else◌, List, [], ◌++◌, codes, Option, Some, None}
 use Rattle.page_ids.specs.Ids.{Id}
 use Rattle.base_text.specs.declared.keys.Field.{Field}
 use Rattle.base_text.specs.declared.keys.Field.TheVariants as field
@@ -53,103 +53,59 @@ unknown_text table.Top = codes " is not a key of a base"
 unknown_text table.Frame = codes " is not a key of a frame"
 unknown_text table.Routes = codes " is not a key of routes, use the digits 0 to 9"
 
-abbrev pub unknown_words : TableKind → List ℕ → List ℕ
-unknown_words t key = quoted key ++ unknown_text t
-
 -- a key that has to be there and isn't; a frame has one of `body` and `rows`
 abbrev pub absent_words : Field → Option Id → List ℕ
 absent_words field.Entry id = codes "the base has no \"entry\""
 absent_words field.Body id = frame_name id ++ codes " has no \"body\" and no \"rows\""
 absent_words f id = frame_name id ++ (codes " has no " ++ key_text f)
 
--- an element of `frame` that is no table
-abbrev pub no_table_words : ValueKind → List ℕ
-no_table_words k = codes "an item of \"frame\" is " ++ (kind_text k ++ codes ", a table is needed")
-
 -- what a key or an item is, and what is needed
-abbrev pub misfit_words : List ℕ → List ℕ → List ℕ → List ℕ
-misfit_words subject found needed =
-    subject ++ (codes " is " ++ (found ++ (codes ", " ++ (needed ++ codes " is needed"))))
-
-abbrev pub wrong_kind_words : Field → ValueKind → Option Id → List ℕ
-wrong_kind_words f k id = misfit_words (key_subject f id) (kind_text k) (needed_text f)
-
-abbrev pub wrong_item_words : Field → ℕ → ValueKind → Option Id → List ℕ
-wrong_item_words f n k id = misfit_words (item_text f n id) (kind_text k) (item_needed f)
-
--- an integer out of its range
-abbrev pub range_words : Field → ℤ → Option Id → List ℕ
-range_words f z id = key_subject f id ++ out_of_range_text f z
-
-abbrev pub item_range_words : Field → ℕ → ℤ → Option Id → List ℕ
-item_range_words f n z id = item_text f n id ++ out_of_range_text f z
-
-abbrev pub lead_words : List ℕ → Option Id → List ℕ
-lead_words text id =
-    key_subject field.Lead id ++ (codes " is " ++ (quoted text ++
-    codes ", \"clear\" or \"keep\" is needed"))
-
--- a character of the body that is no byte
-abbrev pub body_code_words : ℕ → ℕ → Option Id → List ℕ
-body_code_words n c id =
-    codes "character " ++ (grouped n ++ (codes " of " ++ (key_subject field.Body id ++ (codes " is " ++
-    (char_text c ++ codes ", at most U+00FF is allowed")))))
-
-abbrev pub too_many_rows_words : ℕ → Option Id → List ℕ
-too_many_rows_words n id =
-    frame_name id ++ (codes " has " ++ (grouped n ++ codes " rows, at most 22 are allowed"))
-
-abbrev pub body_and_rows_words : Option Id → List ℕ
-body_and_rows_words id =
-    frame_name id ++ codes " has both \"body\" and \"rows\", leave out one"
-
-abbrev pub long_row_words : ℕ → ℕ → Option Id → List ℕ
-long_row_words row n id =
-    item_text field.Rows row id ++ (codes " has " ++ (grouped n ++
-    codes " characters, at most 40 are allowed"))
-
-abbrev pub row_code_words : ℕ → ℕ → ℕ → Option Id → List ℕ
-row_code_words row n c id =
-    codes "character " ++ (grouped n ++ (codes " of " ++ (item_text field.Rows row id ++ (codes " is " ++
-    (char_text c ++ codes ", which no row may have")))))
-
--- how many more characters are refused
-abbrev pub more_body_codes_words : ℕ → Option Id → List ℕ
-more_body_codes_words n id =
-    key_subject field.Body id ++ (codes " has " ++ (number_and_word n (codes "more character") (codes "more characters") ++
-    codes " above U+00FF"))
-
-abbrev pub more_row_codes_words : ℕ → ℕ → Option Id → List ℕ
-more_row_codes_words row n id =
-    item_text field.Rows row id ++ (codes " has " ++ (number_and_word n (codes "more character") (codes "more characters") ++
-    codes " that no row may have"))
-
-abbrev pub bad_frame_words : List ℕ → List ℕ
-bad_frame_words text =
-    quoted text ++ codes " is not a frame id"
+abbrev pub misfit_words : List ℕ → List ℕ → List ℕ
+misfit_words found needed = codes " is " ++ (found ++ (codes ", " ++ (needed ++ codes " is needed")))
 
 -- whether `frame` names the frame of an index, and not the key of the top
 abbrev pub is_element : Option ℕ → Field → Bool
 is_element (Some i) field.Frame = true
 is_element frame f = false
 
--- what is wrong, in a frame's table or at the top
+-- what is wrong with a row; `more` is how many more characters are refused
+abbrev pub row_words : Option Id → Detail → List ℕ
+row_words id (RowTooLong row n) =
+    item_text field.Rows row id ++ (codes " has " ++ (grouped n ++ codes " characters, at most 40 are allowed"))
+row_words id (RowCode row n c) =
+    codes "character " ++ (grouped n ++ (codes " of " ++ (item_text field.Rows row id ++ (codes " is " ++
+    (char_text c ++ codes ", which no row may have")))))
+row_words id (MoreRowCodes row n more) =
+    item_text field.Rows row id ++ (codes " has " ++ (number_and_word more (codes "more character") (codes "more characters") ++
+    codes " that no row may have"))
+row_words id detail = []
+
+-- what is wrong with what a frame shows; a character of the body has to be a byte
+abbrev pub shown_words : Option Id → Detail → List ℕ
+shown_words id BodyAndRows = frame_name id ++ codes " has both \"body\" and \"rows\", leave out one"
+shown_words id (BodyCode n c) =
+    codes "character " ++ (grouped n ++ (codes " of " ++ (key_subject field.Body id ++ (codes " is " ++
+    (char_text c ++ codes ", at most U+00FF is allowed")))))
+shown_words id (MoreBodyCodes n more) =
+    key_subject field.Body id ++ (codes " has " ++ (number_and_word more (codes "more character") (codes "more characters") ++
+    codes " above U+00FF"))
+shown_words id (TooManyRows n) = frame_name id ++ (codes " has " ++ (grouped n ++ codes " rows, at most 22 are allowed"))
+shown_words id detail = row_words id detail
+
+-- what is wrong, in a frame's table or at the top: a key or a value, an element of `frame` that is no table, or what a frame shows
 abbrev pub detail_words : Option ℕ → Option Id → Detail → List ℕ
-detail_words frame id (UnknownKey t key) = unknown_words t key
+detail_words frame id (UnknownKey t key) = quoted key ++ unknown_text t
 detail_words frame id (Absent f) = absent_words f id
-detail_words frame id (WrongKind f k) = if is_element frame f then no_table_words k else wrong_kind_words f k id
-detail_words frame id (WrongItem f n k) = wrong_item_words f n k id
-detail_words frame id (Number f z) = range_words f z id
-detail_words frame id (ItemNumber f n z) = item_range_words f n z id
-detail_words frame id (Lead text) = lead_words text id
-detail_words frame id (BodyCode n c) = body_code_words n c id
-detail_words frame id (MoreBodyCodes n more) = more_body_codes_words more id
-detail_words frame id (TooManyRows n) = too_many_rows_words n id
-detail_words frame id BodyAndRows = body_and_rows_words id
-detail_words frame id (RowTooLong row n) = long_row_words row n id
-detail_words frame id (RowCode row n c) = row_code_words row n c id
-detail_words frame id (MoreRowCodes row n more) = more_row_codes_words row more id
-detail_words frame id (BadFrame text) = bad_frame_words text
+detail_words frame id (WrongKind f k) =
+    if is_element frame f then codes "an item of \"frame\" is " ++ (kind_text k ++ codes ", a table is needed")
+    else key_subject f id ++ misfit_words (kind_text k) (needed_text f)
+detail_words frame id (WrongItem f n k) = item_text f n id ++ misfit_words (kind_text k) (item_needed f)
+detail_words frame id (Number f z) = key_subject f id ++ out_of_range_text f z
+detail_words frame id (ItemNumber f n z) = item_text f n id ++ out_of_range_text f z
+detail_words frame id (Lead text) =
+    key_subject field.Lead id ++ (codes " is " ++ (quoted text ++ codes ", \"clear\" or \"keep\" is needed"))
+detail_words frame id (BadFrame text) = quoted text ++ codes " is not a frame id"
+detail_words frame id detail = shown_words id detail
 
 -- how many faults of a frame's table or of the top aren't listed
 abbrev pub unlisted_words : Option ℕ → Option Id → ℕ → List ℕ

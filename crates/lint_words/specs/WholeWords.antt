@@ -12,43 +12,26 @@ use Rattle.lint_words.specs.declared.code.Code.{Code}
 use Rattle.lint_words.specs.declared.code.Code.TheVariants as code
 
 -- more frames, or more outside pages as listed, than a base may have
-abbrev pub too_many_frames_words : ℕ → List ℕ
-too_many_frames_words n =
-    codes "the base has " ++ (grouped n ++ (codes " frames, at most " ++ (grouped MOST_LISTED ++
-    codes " are allowed")))
-
-abbrev pub too_many_outside_words : ℕ → List ℕ
-too_many_outside_words n =
-    codes "\"outside\" has " ++ (grouped n ++ (codes " pages, at most " ++ (grouped MOST_LISTED ++
-    codes " are allowed")))
+abbrev pub too_many_words : List ℕ → ℕ → List ℕ → List ℕ
+too_many_words has n what =
+    has ++ (grouped n ++ (what ++ (codes ", at most " ++ (grouped MOST_LISTED ++ codes " are allowed"))))
 
 abbrev pub long_body_words : Id → ℕ → List ℕ
 long_body_words id length =
     codes "the body of frame " ++ (frame_text id ++ (codes " has " ++ (grouped length ++
     (codes " bytes, at most " ++ (grouped MOST_BODY ++ codes " are allowed")))))
 
-abbrev pub next_words : Id → List ℕ
-next_words id =
-    codes "frame " ++ (frame_text id ++ codes " has \"next\", but z is the last frame of a page")
-
--- the id's first frame is named by the line of its id
-abbrev pub duplicate_words : Id → ℕ → List ℕ
-duplicate_words id first_line =
-    codes "frame " ++ (frame_text id ++ (codes " is defined already on line " ++ decimal first_line))
-
-abbrev pub inside_words : ℕ → List ℕ
-inside_words page =
-    codes "page " ++ (page_text page ++
-    codes " is listed as outside, but the base has a frame of it")
-
 -- the line is that of the first frame with the id
 abbrev pub whole_message : WholeFault → ℕ → List ℕ
-whole_message (TooManyFrames n) line = too_many_frames_words n
-whole_message (TooManyOutside n) line = too_many_outside_words n
+whole_message (TooManyFrames n) line = too_many_words (codes "the base has ") n (codes " frames")
+whole_message (TooManyOutside n) line = too_many_words (codes "\"outside\" has ") n (codes " pages")
 whole_message (BodyTooLong table id length) line = long_body_words id length
-whole_message (NextAfterZ table id) line = next_words id
-whole_message (Duplicate table first id) line = duplicate_words id line
-whole_message (OutsideInside page) line = inside_words page
+whole_message (NextAfterZ table id) line =
+    codes "frame " ++ (frame_text id ++ codes " has \"next\", but z is the last frame of a page")
+whole_message (Duplicate table first id) line =
+    codes "frame " ++ (frame_text id ++ (codes " is defined already on line " ++ decimal line))
+whole_message (OutsideInside page) line =
+    codes "page " ++ (page_text page ++ codes " is listed as outside, but the base has a frame of it")
 
 abbrev pub whole_code : WholeFault → Code
 whole_code (TooManyFrames n) = code.TooMany

@@ -4,8 +4,8 @@ ghost use Rattle.lint_words.specs.Lines.{line_of};
 ghost use Rattle.lint_words.specs.AboutOf as spec;
 
 use crate::line::Line;
+use base_faults::{Fault, FaultKind};
 use base_text::{Detail, TextFault, WholeFault};
-use fault_scripts::{Fault, FaultKind};
 use page_ids::{FrameId, Key, push_key, push_keys};
 use std::alloc::{AllocError, Global};
 use std::marker::Model;

@@ -5,7 +5,7 @@ use crate::hint::hint_of;
 use crate::line::Line;
 use crate::piece::Piece::{Id, Page, Text};
 use crate::touch_hints::touch_hint;
-use fault_scripts::{Fault, FaultKind};
+use base_faults::{Fault, FaultKind};
 use frame_records::Frame;
 use page_ids::FrameId;
 use std::alloc::{AllocError, Global};

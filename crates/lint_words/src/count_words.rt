@@ -2,7 +2,7 @@ ghost use Rattle.std.specs.Prelude.{◌≡◌, ◌++◌, OnOk};
 ghost use Rattle.lint_words.specs.Pieces.{counted};
 
 use crate::piece::Piece::{Count, Text};
-use crate::piece::push_pieces;
+use crate::piece::Wording;
 use std::alloc::AllocError;
 
 /// Appends how many errors and warnings there are, as `3 errors, 1 warning`. A count of 0 is left out; for two of them
@@ -15,10 +15,10 @@ pub fn push_counted(out: &mut Vec<u8>, errors: usize, warnings: usize) -> Result
     if errors == 0 && warnings == 0 {
         Ok(())
     } else if warnings == 0 {
-        push_pieces(out, &[some_errors])
+        out.say(&[some_errors])
     } else if errors == 0 {
-        push_pieces(out, &[some_warnings])
+        out.say(&[some_warnings])
     } else {
-        push_pieces(out, &[some_errors, Text(", "), some_warnings])
+        out.say(&[some_errors, Text(", "), some_warnings])
     }
 }

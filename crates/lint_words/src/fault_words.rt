@@ -1,15 +1,15 @@
-ghost use Rattle.std.specs.Prelude.{◌≡◌, ◌++◌, IfOk, OnOk, Some, None};
-ghost use Rattle.lint_words.specs.FaultWords.{entry_missing_words, entry_closed_words, cost_words, row_touches_words, body_touches_words, touching_words, missing_page_words, missing_frame_words, missing_words, closed_words, cut_off_words, too_far_words, no_way_back_words, fault_code, fault_message, audit_fault_words, unreached_words, none_reached_words};
+ghost use Rattle.std.specs.Prelude.{◌≡◌, ◌++◌, IfOk, OnOk, Some};
+ghost use Rattle.lint_words.specs.FaultWords.{entry_missing_words, cost_words, body_touches_words, touching_words, missing_page_words, leads_words, missing_words, too_far_words, no_way_back_words, fault_code, fault_message, audit_fault_words, unreached_words, none_reached_words};
 
 use crate::about::{About, fault_about};
 use crate::audit_hints::{audit_hint, unreached_hint};
 use crate::code::Code;
 use crate::line::Line;
 use crate::piece::Piece::{Count, Frame, Group, Grouped, Id, Number, Page, Pressed, ShownBy, Text};
-use crate::piece::push_pieces;
+use crate::piece::Wording;
 use crate::words::Words;
 use abstract_paint::Start;
-use fault_scripts::{Fault, FaultKind};
+use base_faults::{Fault, FaultKind};
 use frame_records::{GroupNo, Pence};
 use page_ids::{FrameId, PageNo};
 use std::alloc::{AllocError, Global};
@@ -33,107 +33,61 @@ fn push_entry_missing(out: &mut Vec<u8>, fault: &Fault) -> Result<(), AllocError
     ensures { OnOk result (out.new.items ≡ out.old.items ++ entry_missing_words fault.now) }
 {
     let id = fault.frame;
-    push_pieces(
-        out,
-        &[
-            Text("the entry page "),
-            Page(id.page),
-            Text(" has no frame a"),
-        ],
-    )
-}
-
-fn push_entry_closed(
-    out: &mut Vec<u8>,
-    group: Option<GroupNo>,
-    fault: &Fault,
-) -> Result<(), AllocError>
-    ensures { OnOk result (out.new.items ≡ out.old.items ++ entry_closed_words group fault.now) }
-{
-    push_pieces(
-        out,
-        &[
-            Text("frame "),
-            Id(fault.frame),
-            Text(", the entry page, is closed to these callers"),
-            Group(group),
-        ],
-    )
+    out.say(&[
+        Text("the entry page "),
+        Page(id.page),
+        Text(" has no frame a"),
+    ])
 }
 
 fn push_price(out: &mut Vec<u8>, ceiling: Pence, fault: &Fault) -> Result<(), AllocError>
     ensures { OnOk result (out.new.items ≡ out.old.items ++ cost_words ceiling fault.now) }
 {
-    push_pieces(
-        out,
-        &[
-            Text("frame "),
-            Id(fault.frame),
-            Text(" costs "),
-            Number(u64::from(fault.price.get())),
-            Text(", the ceiling is "),
-            Number(u64::from(ceiling.get())),
-            ShownBy(fault.script.as_slice()),
-        ],
-    )
+    out.say(&[
+        Text("frame "),
+        Id(fault.frame),
+        Text(" costs "),
+        Number(u64::from(fault.price.get())),
+        Text(", the ceiling is "),
+        Number(u64::from(ceiling.get())),
+        ShownBy(fault.script.as_slice()),
+    ])
 }
 
-// A frame that is given as rows.
-fn push_row_touches(out: &mut Vec<u8>, fault: &Fault) -> Result<(), AllocError>
-    ensures { OnOk result (out.new.items ≡ out.old.items ++ row_touches_words fault.now) }
-{
-    push_pieces(
-        out,
-        &[
-            Text("row 22 of frame "),
-            Id(fault.frame),
-            Text(" has double height, which writes into the last row"),
-            ShownBy(fault.script.as_slice()),
-        ],
-    )
-}
-
-// A frame that is given as a body, without a start.
-fn push_body_touches(out: &mut Vec<u8>, fault: &Fault) -> Result<(), AllocError>
-    ensures { OnOk result (out.new.items ≡ out.old.items ++ body_touches_words None fault.now) }
-{
-    push_pieces(
-        out,
-        &[
-            Text("the body of frame "),
-            Id(fault.frame),
-            Text(" writes into a service row"),
-            ShownBy(fault.script.as_slice()),
-        ],
-    )
-}
-
-// The same with the start.
+// A frame that is given as a body, with the start.
 fn push_byte_touches(out: &mut Vec<u8>, start: Start, fault: &Fault) -> Result<(), AllocError>
     ensures { OnOk result (out.new.items ≡ out.old.items ++ body_touches_words (Some start) fault.now) }
 {
-    push_pieces(
-        out,
-        &[
-            Text("byte "),
-            Grouped(start.offset),
-            Text(" of the body of frame "),
-            Id(fault.frame),
-            Text(" writes into a service row, from start "),
-            Number(u64::from(start.at)),
-            ShownBy(fault.script.as_slice()),
-        ],
-    )
+    out.say(&[
+        Text("byte "),
+        Grouped(start.offset),
+        Text(" of the body of frame "),
+        Id(fault.frame),
+        Text(" writes into a service row, from start "),
+        Number(u64::from(start.at)),
+        ShownBy(fault.script.as_slice()),
+    ])
 }
 
+// A frame that is given as rows, or as a body with or without a start.
 fn push_touches(out: &mut Vec<u8>, has_rows: bool, fault: &Fault) -> Result<(), AllocError>
     ensures { OnOk result (out.new.items ≡ out.old.items ++ touching_words has_rows fault.now) }
 {
     if has_rows {
-        return push_row_touches(out, fault);
+        return out.say(&[
+            Text("row 22 of frame "),
+            Id(fault.frame),
+            Text(" has double height, which writes into the last row"),
+            ShownBy(fault.script.as_slice()),
+        ]);
     }
     match fault.start {
-        None => push_body_touches(out, fault),
+        None => out.say(&[
+            Text("the body of frame "),
+            Id(fault.frame),
+            Text(" writes into a service row"),
+            ShownBy(fault.script.as_slice()),
+        ]),
         Some(start) => push_byte_touches(out, start, fault),
     }
 }
@@ -142,112 +96,79 @@ fn push_touches(out: &mut Vec<u8>, has_rows: bool, fault: &Fault) -> Result<(), 
 fn push_missing_page(out: &mut Vec<u8>, page: PageNo, fault: &Fault) -> Result<(), AllocError>
     ensures { OnOk result (out.new.items ≡ out.old.items ++ missing_page_words page fault.now) }
 {
-    push_pieces(
-        out,
-        &[
-            Text(""),
-            Pressed(fault.key),
-            Text(" of frame "),
-            Id(fault.frame),
-            Text(" leads to page "),
-            Page(page),
-            Text(", which has no frame a"),
-            ShownBy(fault.script.as_slice()),
-        ],
-    )
+    out.say(&[
+        Pressed(fault.key),
+        Text(" of frame "),
+        Id(fault.frame),
+        Text(" leads to page "),
+        Page(page),
+        Text(", which has no frame a"),
+        ShownBy(fault.script.as_slice()),
+    ])
 }
 
-// A key that leads to a missing further frame.
-fn push_missing_frame(out: &mut Vec<u8>, fault: &Fault) -> Result<(), AllocError>
-    ensures { OnOk result (out.new.items ≡ out.old.items ++ missing_frame_words fault.now) }
+// A key that leads to the frame sought, and what is wrong with that.
+fn push_leads<'a>(
+    out: &mut Vec<u8>,
+    wrong: &'a str,
+    group: Option<GroupNo>,
+    fault: &'a Fault,
+) -> Result<(), AllocError>
+    ensures { OnOk result (out.new.items ≡ out.old.items ++ leads_words wrong.now group fault.now) }
 {
-    push_pieces(
-        out,
-        &[
-            Text(""),
-            Pressed(fault.key),
-            Text(" of frame "),
-            Id(fault.frame),
-            Text(" leads to "),
-            Frame(fault.sought),
-            Text(", which the base lacks"),
-            ShownBy(fault.script.as_slice()),
-        ],
-    )
+    out.say(&[
+        Pressed(fault.key),
+        Text(" of frame "),
+        Id(fault.frame),
+        Text(" leads to "),
+        Frame(fault.sought),
+        Text(wrong),
+        Group(group),
+        ShownBy(fault.script.as_slice()),
+    ])
 }
 
 fn push_missing(out: &mut Vec<u8>, fault: &Fault) -> Result<(), AllocError>
     ensures { OnOk result (out.new.items ≡ out.old.items ++ missing_words fault.now.sought fault.now) }
 {
     let Some(id) = fault.sought else {
-        return push_missing_frame(out, fault);
+        return push_leads(out, ", which the base lacks", None, fault);
     };
     if id.letter.get() == b'a' {
         push_missing_page(out, id.page, fault)
     } else {
-        push_missing_frame(out, fault)
+        push_leads(out, ", which the base lacks", None, fault)
     }
-}
-
-fn push_closed(out: &mut Vec<u8>, group: Option<GroupNo>, fault: &Fault) -> Result<(), AllocError>
-    ensures { OnOk result (out.new.items ≡ out.old.items ++ closed_words group fault.now) }
-{
-    push_pieces(
-        out,
-        &[
-            Text(""),
-            Pressed(fault.key),
-            Text(" of frame "),
-            Id(fault.frame),
-            Text(" leads to "),
-            Frame(fault.sought),
-            Text(", which is closed to these callers"),
-            Group(group),
-            ShownBy(fault.script.as_slice()),
-        ],
-    )
-}
-
-// A frame from which no walk leads back.
-fn push_cut_off(out: &mut Vec<u8>, fault: &Fault) -> Result<(), AllocError>
-    ensures { OnOk result (out.new.items ≡ out.old.items ++ cut_off_words fault.now) }
-{
-    push_pieces(
-        out,
-        &[
-            Text("no keys lead from frame "),
-            Id(fault.frame),
-            Text(" back to the entry page"),
-            ShownBy(fault.script.as_slice()),
-        ],
-    )
 }
 
 // A frame from which the shortest walk back is too long.
 fn push_too_far(out: &mut Vec<u8>, rank: u16, keyings: u16, fault: &Fault) -> Result<(), AllocError>
     ensures { OnOk result (out.new.items ≡ out.old.items ++ too_far_words rank keyings fault.now) }
 {
-    push_pieces(
-        out,
-        &[
-            Text("from frame "),
-            Id(fault.frame),
-            Text(" the entry page is "),
-            Count(usize::from(rank), "key", "keys"),
-            Text(" away, at most "),
-            Count(usize::from(keyings), "is", "are"),
-            Text(" allowed"),
-            ShownBy(fault.script.as_slice()),
-        ],
-    )
+    out.say(&[
+        Text("from frame "),
+        Id(fault.frame),
+        Text(" the entry page is "),
+        Count(usize::from(rank), "key", "keys"),
+        Text(" away, at most "),
+        Count(usize::from(keyings), "is", "are"),
+        Text(" allowed"),
+        ShownBy(fault.script.as_slice()),
+    ])
 }
 
+// A frame from which no walk leads back, or none that is short enough.
 fn push_no_return(out: &mut Vec<u8>, judged: &Judged, fault: &Fault) -> Result<(), AllocError>
     ensures { OnOk result (out.new.items ≡ out.old.items
         ++ no_way_back_words judged.now.rank judged.now.keyings fault.now) }
 {
     match judged.rank {
-        None => push_cut_off(out, fault),
+        None => out.say(&[
+            Text("no keys lead from frame "),
+            Id(fault.frame),
+            Text(" back to the entry page"),
+            ShownBy(fault.script.as_slice()),
+        ]),
         Some(rank) => push_too_far(out, rank, judged.keyings, fault),
     }
 }
@@ -271,11 +192,23 @@ fn push_message(out: &mut Vec<u8>, judged: &Judged, fault: &Fault) -> Result<(),
 {
     match fault.kind {
         FaultKind::EntryMissing => push_entry_missing(out, fault),
-        FaultKind::EntryClosed => push_entry_closed(out, judged.group, fault),
+        FaultKind::EntryClosed => out.say(&[
+            Text("frame "),
+            Id(fault.frame),
+            Text(", the entry page, is closed to these callers"),
+            Group(judged.group),
+        ]),
         FaultKind::Price => push_price(out, judged.ceiling, fault),
         FaultKind::Touches => push_touches(out, judged.has_rows, fault),
         FaultKind::Missing => push_missing(out, fault),
-        FaultKind::Closed => push_closed(out, judged.group, fault),
+        FaultKind::Closed => {
+            push_leads(
+                out,
+                ", which is closed to these callers",
+                judged.group,
+                fault,
+            )
+        }
         FaultKind::NoReturn => push_no_return(out, judged, fault),
     }
 }
@@ -307,14 +240,11 @@ pub fn unreached_words(
     ensures { IfOk result (λ words. words ≡ unreached_words id) }
 {
     let mut message = Vec::new(alloc);
-    push_pieces(
-        &mut message,
-        &[
-            Text("no key leads to frame "),
-            Id(id),
-            Text(" from the entry page"),
-        ],
-    )?;
+    message.say(&[
+        Text("no key leads to frame "),
+        Id(id),
+        Text(" from the entry page"),
+    ])?;
     let about = About::frame(Some(id));
     let hint = unreached_hint(alloc, before)?;
     Ok(Words::new(Code::Unreached, about, Line::of(alloc, &message)?, hint))
@@ -325,14 +255,11 @@ pub fn none_reached_words(alloc: Global, frames: usize) -> Result<Words, AllocEr
     ensures { IfOk result (λ words. words ≡ none_reached_words frames) }
 {
     let mut message = Vec::new(alloc);
-    push_pieces(
-        &mut message,
-        &[
-            Text("no key leads to "),
-            Count(frames, "frame", "frames"),
-            Text(" from the entry page"),
-        ],
-    )?;
+    message.say(&[
+        Text("no key leads to "),
+        Count(frames, "frame", "frames"),
+        Text(" from the entry page"),
+    ])?;
     let about = About::frame(None);
     Ok(Words::new(Code::Unreached, about, Line::of(alloc, &message)?, None))
 }

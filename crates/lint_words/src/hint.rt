@@ -2,7 +2,7 @@
 
 use crate::line::Line;
 use crate::piece::Piece::{Code, Grouped, Key, Number, Quoted, Text};
-use crate::piece::{Piece, push_pieces};
+use crate::piece::{Piece, Wording};
 use crate::values::as_text;
 use base_text::Field;
 use page_ids::hex_digit;
@@ -58,7 +58,7 @@ pub enum Hint<'a> {
 // A hint made of pieces.
 pub(crate) fn hint_of(alloc: Global, pieces: &[Piece<'_>]) -> Result<Option<Line>, AllocError> {
     let mut words = Vec::new(alloc);
-    push_pieces(&mut words, pieces)?;
+    words.say(pieces)?;
     Ok(Some(Line::of(alloc, &words)?))
 }
 
@@ -66,147 +66,108 @@ fn line_number(line: usize) -> Piece<'static> {
     Number(line as u64)
 }
 
-// The words of a hint about a key or a line of the file.
-fn words_about_lines(alloc: Global, hint: Hint<'_>) -> Result<Option<Line>, AllocError> {
+// Appends the words of a hint about a character.
+fn push_about_chars(out: &mut Vec<u8>, hint: Hint<'_>) -> Result<(), AllocError> {
     match hint {
-        Hint::TwoBracketsOn(line) => {
-            let words = Text("write [[frame]] with two brackets on line ");
-            hint_of(alloc, &[words, line_number(line)])
-        }
-        Hint::Defined(name, line) => {
-            let words = Text(" is defined already on line ");
-            hint_of(alloc, &[Quoted(name), words, line_number(line)])
-        }
-        Hint::NotClosed(bracket, line) => hint_of(
-            alloc,
-            &[
-                Text(bracket),
-                Text(" of line "),
-                line_number(line),
-                Text(" is not closed"),
-            ],
-        ),
-        Hint::Above(line) => hint_of(
-            alloc,
-            &[
-                Text("move it above line "),
-                line_number(line),
-                Text(", where the first frame begins"),
-            ],
-        ),
-        Hint::Meant(field) => hint_of(alloc, &[Text("did you mean "), Key(field), Text("?")]),
-        _ => words_about_ids(alloc, hint),
-    }
-}
-
-// The words of a hint about a character.
-fn words_about_chars(alloc: Global, hint: Hint<'_>) -> Result<Option<Line>, AllocError> {
-    match hint {
-        Hint::Unseen(c) => {
-            let words = Text(" can't be seen: leave it out");
-            hint_of(alloc, &[Code(c), words])
-        }
-        Hint::Space(c) => hint_of(alloc, &[Text("this is "), Code(c), Text(", write a space")]),
+        Hint::Unseen(c) => out.say(&[Code(c), Text(" can't be seen: leave it out")]),
+        Hint::Space(c) => out.say(&[Text("this is "), Code(c), Text(", write a space")]),
         Hint::Alike(c, letter) => {
             let mut bytes = [0; 4];
             let letter: &str = letter.encode_utf8(&mut bytes);
             let words = Text(" looks like the letter ");
-            hint_of(alloc, &[Code(c), words, Text(letter), Text(", write that")])
+            out.say(&[Code(c), words, Text(letter), Text(", write that")])
         }
         Hint::Mosaic(code) => {
             let digits = [hex_digit(code / 16), hex_digit(code % 16)];
             let words = Text("write its code after \\u0091 to \\u0097: \\u00");
-            hint_of(alloc, &[words, Text(as_text(&digits))])
+            out.say(&[words, Text(as_text(&digits))])
         }
         Hint::Escape(digits) => {
             let words = Text("\\u takes four digits: write \\u00");
-            hint_of(alloc, &[words, Text(as_text(&digits))])
+            out.say(&[words, Text(as_text(&digits))])
         }
-        _ => Ok(None),
+        _ => Ok(()),
     }
 }
 
-// The words of a hint about what frames show.
-fn words_about_frames(alloc: Global, hint: Hint<'_>) -> Result<Option<Line>, AllocError> {
+// Appends the words of a hint about lines, of the file or of a frame.
+fn push_about_lines(out: &mut Vec<u8>, hint: Hint<'_>) -> Result<(), AllocError> {
     match hint {
-        Hint::Rows(rows) => hint_of(
-            alloc,
-            &[Grouped(rows), Text(" rows are written, 22 are free")],
-        ),
-        Hint::Length(length) => hint_of(
-            alloc,
-            &[
-                Grouped(length),
-                Text(" characters are written, 880 are free"),
-            ],
-        ),
-        _ => words_about_chars(alloc, hint),
+        Hint::TwoBracketsOn(line) => out.say(&[
+            Text("write [[frame]] with two brackets on line "),
+            line_number(line),
+        ]),
+        Hint::Defined(name, line) => out.say(&[
+            Quoted(name),
+            Text(" is defined already on line "),
+            line_number(line),
+        ]),
+        Hint::NotClosed(bracket, line) => out.say(&[
+            Text(bracket),
+            Text(" of line "),
+            line_number(line),
+            Text(" is not closed"),
+        ]),
+        Hint::Above(line) => out.say(&[
+            Text("move it above line "),
+            line_number(line),
+            Text(", where the first frame begins"),
+        ]),
+        Hint::Braces(line) => out.say(&[
+            Text("write it into the braces of line "),
+            line_number(line),
+        ]),
+        Hint::Rows(rows) => out.say(&[Grouped(rows), Text(" rows are written, 22 are free")]),
+        Hint::Length(length) => out.say(&[
+            Grouped(length),
+            Text(" characters are written, 880 are free"),
+        ]),
+        _ => push_about_chars(out, hint),
     }
 }
 
-// The words of a hint about a list, and about the pages of routes.
-fn words_about_lists(alloc: Global, hint: Hint<'_>) -> Result<Option<Line>, AllocError> {
+// Appends the words of a hint.
+fn push_hint(out: &mut Vec<u8>, hint: Hint<'_>) -> Result<(), AllocError> {
     match hint {
-        Hint::Outside(page) => hint_of(alloc, &[Text("write ["), Text(page), Text("]")]),
-        Hint::List(items) => hint_of(alloc, &[Text("write ["), Text(items), Text("]")]),
-        Hint::Pairs(pairs) => hint_of(alloc, &[Text("write { "), Text(pairs), Text(" }")]),
-        Hint::Routes(digit, page) => hint_of(
-            alloc,
-            &[
-                Text("write routes = { "),
-                Text(digit),
-                Text(" = "),
-                Text(page),
-                Text(" }"),
-            ],
-        ),
-        Hint::Braces(line) => hint_of(
-            alloc,
-            &[Text("write it into the braces of line "), line_number(line)],
-        ),
-        _ => words_about_frames(alloc, hint),
-    }
-}
-
-// The words of a hint about an id.
-fn words_about_ids(alloc: Global, hint: Hint<'_>) -> Result<Option<Line>, AllocError> {
-    match hint {
-        Hint::FrameId(page, letter) => hint_of(alloc, &[Text("write "), Text(page), Text(letter)]),
-        Hint::IdText(page, letter) => hint_of(
-            alloc,
-            &[Text("write \""), Text(page), Text(letter), Text("\"")],
-        ),
-        Hint::Header(id) => hint_of(
-            alloc,
-            &[Text("write [[frame]], and below it id = "), Quoted(id)],
-        ),
-        _ => words_about_lists(alloc, hint),
+        Hint::Words(words) => out.say(&[Text(words)]),
+        Hint::Meant(field) => out.say(&[Text("did you mean "), Key(field), Text("?")]),
+        Hint::Lead(word) => out.say(&[Text("write lead = "), Quoted(word)]),
+        Hint::Pence(pence) => out.say(&[
+            Text("a price is whole pence: write "),
+            Number(u64::from(pence)),
+        ]),
+        Hint::PageAlone(page) => {
+            out.say(&[Text("a page number has no letter: write "), Text(page)])
+        }
+        Hint::Joined(front, back) => out.say(&[
+            Text("a number has no spaces: write "),
+            Text(front),
+            Text(back),
+        ]),
+        Hint::FrameId(page, letter) => out.say(&[Text("write "), Text(page), Text(letter)]),
+        Hint::IdText(page, letter) => {
+            out.say(&[Text("write \""), Text(page), Text(letter), Text("\"")])
+        }
+        Hint::Header(id) => out.say(&[Text("write [[frame]], and below it id = "), Quoted(id)]),
+        Hint::Outside(page) => out.say(&[Text("write ["), Text(page), Text("]")]),
+        Hint::List(items) => out.say(&[Text("write ["), Text(items), Text("]")]),
+        Hint::Pairs(pairs) => out.say(&[Text("write { "), Text(pairs), Text(" }")]),
+        Hint::Routes(digit, page) => out.say(&[
+            Text("write routes = { "),
+            Text(digit),
+            Text(" = "),
+            Text(page),
+            Text(" }"),
+        ]),
+        _ => push_about_lines(out, hint),
     }
 }
 
 // The words of a hint.
 pub(crate) fn words_of(alloc: Global, hint: Hint<'_>) -> Result<Option<Line>, AllocError> {
-    match hint {
-        Hint::Words(words) => hint_of(alloc, &[Text(words)]),
-        Hint::Pence(pence) => {
-            let words = Text("a price is whole pence: write ");
-            hint_of(alloc, &[words, Number(u64::from(pence))])
-        }
-        Hint::PageAlone(page) => hint_of(
-            alloc,
-            &[Text("a page number has no letter: write "), Text(page)],
-        ),
-        Hint::Joined(front, back) => hint_of(
-            alloc,
-            &[
-                Text("a number has no spaces: write "),
-                Text(front),
-                Text(back),
-            ],
-        ),
-        Hint::Lead(word) => hint_of(alloc, &[Text("write lead = "), Quoted(word)]),
-        _ => words_about_lines(alloc, hint),
-    }
+    let mut words = Vec::new(alloc);
+    push_hint(&mut words, hint)?;
+    Ok(Some(Line::of(alloc, &words)?))
 }
 
 // The words of a hint, if there is one.

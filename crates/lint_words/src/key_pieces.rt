@@ -1,5 +1,5 @@
-ghost use Rattle.std.specs.Prelude.{◌≡◌, ◌++◌, OnOk, None};
-ghost use Rattle.base_text.specs.declared.keys.Field.TheVariants as field;
+ghost use Rattle.std.specs.Prelude.{◌≡◌, ◌++◌, OnOk, codes};
+ghost use Rattle.lint_words.specs.Pieces.{grouped};
 ghost use Rattle.lint_words.specs.KeyPieces.{key_text, key_subject, integer_text, least_of, most_of_field, least_text, most_text, limit_text, item_text, out_of_range_text};
 
 use crate::pieces::{push_between, push_decimal, push_frame, push_grouped};
@@ -91,34 +91,13 @@ pub fn push_out_of_range(out: &mut Vec<u8>, field: Field, number: i64) -> Result
     push_limit(out, field, number)
 }
 
-// An item of `outside`.
-fn push_page_item(out: &mut Vec<u8>, number: usize) -> Result<(), AllocError>
-    ensures { OnOk result (out.new.items ≡ out.old.items ++ item_text field.Outside number None) }
+// A word for an item, and its number.
+fn push_nth(out: &mut Vec<u8>, word: &[u8], number: usize) -> Result<(), AllocError>
+    ensures { OnOk result (out.new.items ≡ out.old.items ++ (word.now ++ (grouped number ++ codes " of "))) }
 {
-    out.extend_from_slice(b"item ")?;
+    out.extend_from_slice(word)?;
     push_grouped(out, number)?;
-    out.extend_from_slice(b" of ")?;
-    push_key_name(out, Field::Outside)
-}
-
-// A route of a frame, by its digit.
-fn push_route(out: &mut Vec<u8>, digit: usize, id: Option<FrameId>) -> Result<(), AllocError>
-    ensures { OnOk result (out.new.items ≡ out.old.items ++ item_text field.Routes digit id) }
-{
-    out.extend_from_slice(b"route ")?;
-    push_grouped(out, digit)?;
-    out.extend_from_slice(b" of ")?;
-    push_frame(out, id)
-}
-
-// A row of a frame.
-fn push_row(out: &mut Vec<u8>, row: usize, id: Option<FrameId>) -> Result<(), AllocError>
-    ensures { OnOk result (out.new.items ≡ out.old.items ++ item_text field.Rows row id) }
-{
-    out.extend_from_slice(b"row ")?;
-    push_grouped(out, row)?;
-    out.extend_from_slice(b" of ")?;
-    push_frame(out, id)
+    out.extend_from_slice(b" of ")
 }
 
 // An item of `outside`, a route by its digit, or a row.
@@ -131,8 +110,17 @@ pub fn push_item(
     ensures { OnOk result (out.new.items ≡ out.old.items ++ item_text field number id) }
 {
     match field {
-        Field::Outside => push_page_item(out, number),
-        Field::Routes => push_route(out, number, id),
-        _ => push_row(out, number, id),
+        Field::Outside => {
+            push_nth(out, b"item ", number)?;
+            push_key_name(out, Field::Outside)
+        }
+        Field::Routes => {
+            push_nth(out, b"route ", number)?;
+            push_frame(out, id)
+        }
+        _ => {
+            push_nth(out, b"row ", number)?;
+            push_frame(out, id)
+        }
     }
 }

@@ -73,6 +73,7 @@ pub use count_words::push_counted;
 pub use fault_words::{Judged, audit_fault_words, none_reached_words, unreached_words};
 pub use headers::cause_span;
 pub use line::Line;
+pub use near_key::FIELDS;
 pub use text_hints::Written;
 pub use text_words::{not_toml_words, text_fault_words, too_long_words};
 pub use warning_words::{

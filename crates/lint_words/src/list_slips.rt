@@ -21,11 +21,8 @@ fn inside(value: &[u8]) -> &[u8] {
 fn short_items(value: &[u8]) -> Option<&str> {
     let items = inside(value);
     let is_open = matches!(items, [b'(' | b'{' | b'[', ..]) || matches!(items, [.., b',']);
-    if items.is_empty() || items.len() > LONGEST || is_open || items.contains(&b'#') {
-        None
-    } else {
-        Some(as_text(items))
-    }
+    let is_short = !items.is_empty() && items.len() <= LONGEST;
+    (is_short && !is_open && !items.contains(&b'#')).then_some(as_text(items))
 }
 
 // A list that has no brackets, or others.
@@ -51,9 +48,6 @@ pub(crate) fn joined_hint(rest: &[u8]) -> Option<Hint<'_>> {
     let next = after(blanks, Class::Blank);
     let back = next.get(..run_len(next, Class::Digit))?;
     let follows = after(after(next, Class::Digit), Class::Blank);
-    if front.is_empty() || back.is_empty() || byte_at(follows, 0) == b'=' {
-        None
-    } else {
-        Some(Hint::Joined(as_text(front), as_text(back)))
-    }
+    let is_joined = !front.is_empty() && !back.is_empty() && byte_at(follows, 0) != b'=';
+    is_joined.then_some(Hint::Joined(as_text(front), as_text(back)))
 }

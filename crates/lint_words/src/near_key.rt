@@ -2,11 +2,11 @@ use base_text::{Field, TableKind};
 use near_words::Search;
 use std::alloc::{AllocError, Global};
 
-// The keys of the top.
-const TOP: &[Field] = &[Field::Entry, Field::Outside, Field::Frame];
-
-// The keys of a frame.
-const FRAME: &[Field] = &[
+/// The keys of the top, three of them, and those of a frame.
+pub const FIELDS: &[Field] = &[
+    Field::Entry,
+    Field::Outside,
+    Field::Frame,
     Field::Id,
     Field::Price,
     Field::Group,
@@ -18,9 +18,10 @@ const FRAME: &[Field] = &[
 ];
 
 fn named_keys(table: TableKind) -> &'static [Field] {
+    let (top, frame) = FIELDS.split_at(3);
     match table {
-        TableKind::Top => TOP,
-        TableKind::Frame => FRAME,
+        TableKind::Top => top,
+        TableKind::Frame => frame,
         TableKind::Routes => &[],
     }
 }

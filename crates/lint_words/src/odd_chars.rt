@@ -3,47 +3,6 @@
 use crate::hint::Hint;
 use crate::values::as_text;
 
-// The capital letters, and then the small ones, of other alphabets that look like ASCII letters.
-const ALIKE: &[(char, char)] = &[
-    ('\u{410}', 'A'),
-    ('\u{412}', 'B'),
-    ('\u{415}', 'E'),
-    ('\u{41A}', 'K'),
-    ('\u{41C}', 'M'),
-    ('\u{41D}', 'H'),
-    ('\u{41E}', 'O'),
-    ('\u{420}', 'P'),
-    ('\u{421}', 'C'),
-    ('\u{422}', 'T'),
-    ('\u{425}', 'X'),
-    ('\u{391}', 'A'),
-    ('\u{392}', 'B'),
-    ('\u{395}', 'E'),
-    ('\u{396}', 'Z'),
-    ('\u{397}', 'H'),
-    ('\u{399}', 'I'),
-    ('\u{39A}', 'K'),
-    ('\u{39C}', 'M'),
-    ('\u{39D}', 'N'),
-    ('\u{39F}', 'O'),
-    ('\u{3A1}', 'P'),
-    ('\u{3A4}', 'T'),
-    ('\u{3A5}', 'Y'),
-    ('\u{3A7}', 'X'),
-    ('\u{430}', 'a'),
-    ('\u{435}', 'e'),
-    ('\u{43E}', 'o'),
-    ('\u{440}', 'p'),
-    ('\u{441}', 'c'),
-    ('\u{443}', 'y'),
-    ('\u{445}', 'x'),
-    ('\u{455}', 's'),
-    ('\u{456}', 'i'),
-    ('\u{458}', 'j'),
-    ('\u{3BF}', 'o'),
-    ('\u{3BD}', 'v'),
-];
-
 // Whether a character has no width.
 fn is_unseen(c: char) -> bool {
     matches!(
@@ -65,8 +24,38 @@ fn is_space(c: char) -> bool {
     )
 }
 
+// The ASCII letter that a letter of another alphabet looks like.
 fn letter_like(c: char) -> Option<char> {
-    ALIKE.iter().find(|pair| pair.0 == c).map(|pair| pair.1)
+    let letter = match c {
+        '\u{410}' | '\u{391}' => 'A',
+        '\u{412}' | '\u{392}' => 'B',
+        '\u{421}' => 'C',
+        '\u{415}' | '\u{395}' => 'E',
+        '\u{41D}' | '\u{397}' => 'H',
+        '\u{399}' => 'I',
+        '\u{41A}' | '\u{39A}' => 'K',
+        '\u{41C}' | '\u{39C}' => 'M',
+        '\u{39D}' => 'N',
+        '\u{41E}' | '\u{39F}' => 'O',
+        '\u{420}' | '\u{3A1}' => 'P',
+        '\u{422}' | '\u{3A4}' => 'T',
+        '\u{425}' | '\u{3A7}' => 'X',
+        '\u{3A5}' => 'Y',
+        '\u{396}' => 'Z',
+        '\u{430}' => 'a',
+        '\u{441}' => 'c',
+        '\u{435}' => 'e',
+        '\u{456}' => 'i',
+        '\u{458}' => 'j',
+        '\u{43E}' | '\u{3BF}' => 'o',
+        '\u{440}' => 'p',
+        '\u{455}' => 's',
+        '\u{3BD}' => 'v',
+        '\u{445}' => 'x',
+        '\u{443}' => 'y',
+        _ => return None,
+    };
+    Some(letter)
 }
 
 // How to write a character that isn't what it seems to be.

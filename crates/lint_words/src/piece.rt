@@ -113,8 +113,7 @@ fn push_piece(out: &mut Vec<u8>, piece: &Piece<'_>) -> Result<(), AllocError>
     }
 }
 
-// Appends pieces, one after another.
-pub fn push_pieces(out: &mut Vec<u8>, pieces: &[Piece<'_>]) -> Result<(), AllocError>
+fn push_pieces(out: &mut Vec<u8>, pieces: &[Piece<'_>]) -> Result<(), AllocError>
     ensures { OnOk result (out.new.items ≡ out.old.items ++ pieces_text pieces.now) }
 {
     match pieces {
@@ -124,5 +123,22 @@ pub fn push_pieces(out: &mut Vec<u8>, pieces: &[Piece<'_>]) -> Result<(), AllocE
             push_piece(out, first)?;
             push_pieces(out, rest)
         }
+    }
+}
+
+// What takes words.
+pub trait Wording {
+    // Appends pieces, one after another.
+    fn say(&mut self, pieces: &[Piece<'_>]) -> Result<(), AllocError>;
+}
+
+impl Wording for Vec<u8> {
+    ghost use Rattle.std.specs.Prelude.{◌≡◌, ◌++◌, OnOk};
+    ghost use Rattle.lint_words.specs.Loops.{pieces_text};
+
+    fn say(&mut self, pieces: &[Piece<'_>]) -> Result<(), AllocError>
+        ensures { OnOk result (self.new.items ≡ self.old.items ++ pieces_text pieces.now) }
+    {
+        push_pieces(self, pieces)
     }
 }

@@ -7,6 +7,8 @@ use crate::headers::{ROUTES_HEADER, braces_hint, header_hint, no_frame_hint};
 use crate::hint::Hint;
 use crate::list_slips::{joined_hint, list_hint, pairs_hint};
 use crate::near_bytes::{Class, begins_expression, run_len, run_start};
+use crate::slips::LineFront::{Any, Has, Is};
+use crate::slips::Say::{Braces, Escape, Header, Id, Joined, LineEnd, List, NoFrame, Pairs, Words};
 use crate::toml_messages::{
     BAD_DATE, BAD_ESCAPE, BAD_KEY, BAD_STRING, BAD_VALUE, DUPLICATE, EXTENDS, NO_COMMA, NO_VALUE,
     UNEXPECTED,
@@ -20,6 +22,12 @@ pub(crate) const COMMENT: &str = "a comment begins with #";
 pub(crate) const TWO_BRACKETS: &str = "write [[frame]] with two brackets";
 
 const NOT_YAML: &str = "a base is TOML, not YAML";
+
+const EQUALS: &str = "a base is TOML: write = in place of :";
+
+const DIGITS: &str = "a route is a digit, 0 to 9";
+
+const EACH_PAGE: &str = "list each page, as [0, 1]";
 
 // What is before the place on its line, blanks aside.
 #[derive(Clone, Copy)]
@@ -53,164 +61,38 @@ enum Say {
 type Slip = (&'static str, Option<Field>, LineFront, &'static str, Say);
 
 const SLIPS: &[Slip] = &[
-    (NO_VALUE, None, LineFront::Is("--"), "", Say::Words(COMMENT)),
-    (UNEXPECTED, None, LineFront::Any, "--", Say::Words(COMMENT)),
-    (BAD_KEY, None, LineFront::Any, "/*", Say::Words(COMMENT)),
-    (UNEXPECTED, None, LineFront::Any, "/*", Say::Words(COMMENT)),
-    (NO_VALUE, None, LineFront::Is("-"), "", Say::Words(NOT_YAML)),
-    (
-        NO_VALUE,
-        None,
-        LineFront::Is("---"),
-        "",
-        Say::Words(NOT_YAML),
-    ),
-    (
-        NO_VALUE,
-        None,
-        LineFront::Any,
-        ":",
-        Say::Words("a base is TOML: write = in place of :"),
-    ),
-    (
-        BAD_KEY,
-        None,
-        LineFront::Is(""),
-        "<",
-        Say::Words("a base is TOML"),
-    ),
-    (
-        BAD_KEY,
-        None,
-        LineFront::Is(""),
-        "((frame",
-        Say::Words(TWO_BRACKETS),
-    ),
-    (
-        BAD_KEY,
-        None,
-        LineFront::Is(""),
-        "(frame",
-        Say::Words(TWO_BRACKETS),
-    ),
-    (
-        BAD_KEY,
-        None,
-        LineFront::Is(""),
-        "{{frame",
-        Say::Words(TWO_BRACKETS),
-    ),
-    (
-        BAD_KEY,
-        None,
-        LineFront::Is(""),
-        "{frame",
-        Say::Words(TWO_BRACKETS),
-    ),
-    (DUPLICATE, None, LineFront::Any, "id", Say::NoFrame),
-    (DUPLICATE, None, LineFront::Any, ROUTES_HEADER, Say::Header),
-    (EXTENDS, None, LineFront::Any, "routes", Say::Braces),
-    (
-        BAD_KEY,
-        Some(Field::Routes),
-        LineFront::Has(b'{'),
-        "*",
-        Say::Words("a route is a digit, 0 to 9"),
-    ),
-    (
-        NO_COMMA,
-        Some(Field::Routes),
-        LineFront::Has(b'['),
-        "=",
-        Say::Pairs,
-    ),
-    (
-        BAD_VALUE,
-        Some(Field::Routes),
-        LineFront::Any,
-        "(",
-        Say::Pairs,
-    ),
-    (BAD_VALUE, Some(Field::Rows), LineFront::Any, "(", Say::List),
-    (
-        BAD_VALUE,
-        Some(Field::Outside),
-        LineFront::Any,
-        "(",
-        Say::List,
-    ),
-    (
-        NO_VALUE,
-        Some(Field::Rows),
-        LineFront::Has(b'{'),
-        "",
-        Say::List,
-    ),
-    (
-        NO_VALUE,
-        Some(Field::Outside),
-        LineFront::Has(b'{'),
-        "",
-        Say::List,
-    ),
-    (
-        UNEXPECTED,
-        Some(Field::Rows),
-        LineFront::Any,
-        ",",
-        Say::List,
-    ),
-    (
-        UNEXPECTED,
-        Some(Field::Outside),
-        LineFront::Any,
-        ",",
-        Say::List,
-    ),
-    (
-        BAD_DATE,
-        Some(Field::Outside),
-        LineFront::Any,
-        "",
-        Say::Words("list each page, as [0, 1]"),
-    ),
-    (
-        BAD_VALUE,
-        Some(Field::Routes),
-        LineFront::Has(b'{'),
-        "",
-        Say::Joined,
-    ),
-    (
-        BAD_VALUE,
-        Some(Field::Routes),
-        LineFront::Has(b'.'),
-        "",
-        Say::Joined,
-    ),
-    (
-        BAD_VALUE,
-        Some(Field::Entry),
-        LineFront::Any,
-        "",
-        Say::Joined,
-    ),
-    (UNEXPECTED, Some(Field::Id), LineFront::Any, "", Say::Id),
-    (
-        BAD_STRING,
-        Some(Field::Body),
-        LineFront::Any,
-        "\n",
-        Say::LineEnd,
-    ),
-    (
-        BAD_STRING,
-        Some(Field::Body),
-        LineFront::Any,
-        "\r",
-        Say::LineEnd,
-    ),
-    (BAD_ESCAPE, None, LineFront::Any, "", Say::Escape),
+    (NO_VALUE, None, Is("--"), "", Words(COMMENT)),
+    (UNEXPECTED, None, Any, "--", Words(COMMENT)),
+    (BAD_KEY, None, Any, "/*", Words(COMMENT)),
+    (UNEXPECTED, None, Any, "/*", Words(COMMENT)),
+    (NO_VALUE, None, Is("-"), "", Words(NOT_YAML)),
+    (NO_VALUE, None, Is("---"), "", Words(NOT_YAML)),
+    (NO_VALUE, None, Any, ":", Words(EQUALS)),
+    (BAD_KEY, None, Is(""), "<", Words("a base is TOML")),
+    (BAD_KEY, None, Is(""), "((frame", Words(TWO_BRACKETS)),
+    (BAD_KEY, None, Is(""), "(frame", Words(TWO_BRACKETS)),
+    (BAD_KEY, None, Is(""), "{{frame", Words(TWO_BRACKETS)),
+    (BAD_KEY, None, Is(""), "{frame", Words(TWO_BRACKETS)),
+    (DUPLICATE, None, Any, "id", NoFrame),
+    (DUPLICATE, None, Any, ROUTES_HEADER, Header),
+    (EXTENDS, None, Any, "routes", Braces),
+    (BAD_KEY, Some(Field::Routes), Has(b'{'), "*", Words(DIGITS)),
+    (NO_COMMA, Some(Field::Routes), Has(b'['), "=", Pairs),
+    (BAD_VALUE, Some(Field::Routes), Any, "(", Pairs),
+    (BAD_VALUE, Some(Field::Rows), Any, "(", List),
+    (BAD_VALUE, Some(Field::Outside), Any, "(", List),
+    (NO_VALUE, Some(Field::Rows), Has(b'{'), "", List),
+    (NO_VALUE, Some(Field::Outside), Has(b'{'), "", List),
+    (UNEXPECTED, Some(Field::Rows), Any, ",", List),
+    (UNEXPECTED, Some(Field::Outside), Any, ",", List),
+    (BAD_DATE, Some(Field::Outside), Any, "", Words(EACH_PAGE)),
+    (BAD_VALUE, Some(Field::Routes), Has(b'{'), "", Joined),
+    (BAD_VALUE, Some(Field::Routes), Has(b'.'), "", Joined),
+    (BAD_VALUE, Some(Field::Entry), Any, "", Joined),
+    (UNEXPECTED, Some(Field::Id), Any, "", Id),
+    (BAD_STRING, Some(Field::Body), Any, "\n", LineEnd),
+    (BAD_STRING, Some(Field::Body), Any, "\r", LineEnd),
+    (BAD_ESCAPE, None, Any, "", Escape),
 ];
 
 // The key whose value is on the line of a place.
@@ -230,9 +112,9 @@ fn line_before(text: &[u8], at: usize) -> &[u8]
 
 fn is_before(before: LineFront, line: &[u8]) -> bool {
     match before {
-        LineFront::Any => true,
-        LineFront::Is(words) => line == words.as_bytes(),
-        LineFront::Has(byte) => line.contains(&byte),
+        Any => true,
+        Is(words) => line == words.as_bytes(),
+        Has(byte) => line.contains(&byte),
     }
 }
 
@@ -248,11 +130,8 @@ fn line_end_hint(rest: &[u8]) -> Option<Hint<'static>> {
     let rest = rest.strip_prefix(b"\r").unwrap_or(rest);
     let next = rest.strip_prefix(b"\n")?;
     let line = next.get(..run_len(next, Class::Line))?;
-    if line.trim_ascii().is_empty() || begins_expression(line) {
-        None
-    } else {
-        Some(Hint::Words("a text ends on its line: write \\u000D\\u000A for a line end"))
-    }
+    let is_text = !line.trim_ascii().is_empty() && !begins_expression(line);
+    is_text.then_some(Hint::Words("a text ends on its line: write \\u000D\\u000A for a line end"))
 }
 
 fn id_hint(text: &[u8], at: usize) -> Option<Hint<'_>>
@@ -267,19 +146,19 @@ fn hint_said(text: &[u8], at: usize, say: Say) -> Option<Hint<'_>>
     requires { at ≤ length text.now }
 {
     match say {
-        Say::Words(words) => Some(Hint::Words(words)),
-        Say::List => Some(list_hint(line_value(text, at))),
-        Say::Pairs => Some(pairs_hint(line_value(text, at))),
-        Say::Joined => joined_hint(&text[at..]),
-        Say::Id => id_hint(text, at),
-        Say::Escape => {
+        Words(words) => Some(Hint::Words(words)),
+        List => Some(list_hint(line_value(text, at))),
+        Pairs => Some(pairs_hint(line_value(text, at))),
+        Joined => joined_hint(&text[at..]),
+        Id => id_hint(text, at),
+        Escape => {
             let is_body = field_at(text, at) == Some(Field::Body);
             Some(escape_hint(&text[at..], is_body))
         }
-        Say::LineEnd => line_end_hint(&text[at..]),
-        Say::NoFrame => no_frame_hint(text, at),
-        Say::Header => header_hint(text, at),
-        Say::Braces => braces_hint(text, at),
+        LineEnd => line_end_hint(&text[at..]),
+        NoFrame => no_frame_hint(text, at),
+        Header => header_hint(text, at),
+        Braces => braces_hint(text, at),
     }
 }
 

@@ -19,8 +19,6 @@ use base_text::Field;
 use std::alloc::{AllocError, Global};
 use toml_parser::bytes::byte_at;
 
-const MISSING_QUOTE: Hint<'static> = Hint::Words("a quotation mark is missing");
-
 // UTF-16 has a byte order mark, or a zero byte beside each of the first letters.
 fn is_utf16(text: &[u8]) -> bool {
     match text {
@@ -117,11 +115,8 @@ fn odd_char_hint(rest: &[u8]) -> Option<Hint<'static>> {
 
 // A header of a frame that lacks a bracket, right before the place.
 fn header_hint(before: &[u8]) -> Option<Hint<'static>> {
-    if before.ends_with(b"[frame]") || before.ends_with(b"[frame") {
-        Some(Hint::Words(TWO_BRACKETS))
-    } else {
-        None
-    }
+    let is_header = before.ends_with(b"[frame]") || before.ends_with(b"[frame");
+    is_header.then_some(Hint::Words(TWO_BRACKETS))
 }
 
 fn second_definition(text: &[u8], at: usize, place: usize) -> Hint<'_>
@@ -177,10 +172,7 @@ fn bracket_hint(text: &[u8], at: usize, message: &str) -> Option<Hint<'static>>
 }
 
 fn ends_line(rest: &[u8]) -> bool {
-    match rest {
-        [] => true,
-        [byte, ..] => *byte == b'\n' || *byte == b'\r',
-    }
+    matches!(rest, [] | [b'\n' | b'\r', ..])
 }
 
 // Whether the quotation marks so far are odd in number, and whether the next byte is escaped.
@@ -209,13 +201,12 @@ fn line_at(text: &[u8], at: usize) -> &[u8]
 fn quote_hint(text: &[u8], at: usize, message: &str) -> Option<Hint<'static>>
     requires { at ≤ length text.now }
 {
-    if message == BAD_STRING && ends_line(&text[at..]) {
-        Some(MISSING_QUOTE)
-    } else if (message == NO_COMMA || message == BAD_VALUE) && has_odd_marks(line_at(text, at)) {
-        Some(MISSING_QUOTE)
+    let lacks_quote = if message == BAD_STRING {
+        ends_line(&text[at..])
     } else {
-        None
-    }
+        (message == NO_COMMA || message == BAD_VALUE) && has_odd_marks(line_at(text, at))
+    };
+    lacks_quote.then_some(Hint::Words("a quotation mark is missing"))
 }
 
 // A quotation mark right before a word, which was meant to be inside a text.
@@ -233,11 +224,8 @@ fn inner_mark_hint(before: &[u8], rest: &[u8], message: &str) -> Option<Hint<'st
 
 // A control character as it is.
 fn string_hint(rest: &[u8], message: &str) -> Option<Hint<'static>> {
-    if message == BAD_STRING && byte_at(rest, 0) < b' ' && !ends_line(rest) {
-        Some(Hint::Words("write a control character as an escape, as \\u001B"))
-    } else {
-        None
-    }
+    let is_control = message == BAD_STRING && byte_at(rest, 0) < b' ' && !ends_line(rest);
+    is_control.then_some(Hint::Words("write a control character as an escape, as \\u001B"))
 }
 
 fn has_leading_zero(word: &[u8]) -> bool {
@@ -275,15 +263,7 @@ fn lacks_comma(rest: &[u8]) -> bool {
     !number.is_empty() && next.len() < blanks.len() && byte_at(next, 0).is_ascii_digit()
 }
 
-// A word or number that is no value, of a key that isn't known.
-fn any_word_hint(word: &[u8]) -> Option<Hint<'static>> {
-    if is_text(word) {
-        Some(Hint::Words("put a text in quotation marks"))
-    } else {
-        None
-    }
-}
-
+// A word or number that is no value.
 fn bad_word_hint(field: Option<Field>, word: &[u8]) -> Option<Hint<'_>> {
     if is_answer(word) {
         return Some(Hint::Words("write true or false, in small letters"));
@@ -292,7 +272,7 @@ fn bad_word_hint(field: Option<Field>, word: &[u8]) -> Option<Hint<'_>> {
         _ if has_leading_zero(word) && after(word, Class::Digit).is_empty() => {
             Some(Hint::Words("a number has no leading zero"))
         }
-        None => any_word_hint(word),
+        None => is_text(word).then_some(Hint::Words("put a text in quotation marks")),
         Some(_) if word.is_empty() || is_number(word) => None,
         Some(field) => word_hint(field, word),
     }

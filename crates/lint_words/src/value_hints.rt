@@ -40,22 +40,6 @@ fn number_hint(field: Field, written: &[u8]) -> Option<Hint<'_>> {
     }
 }
 
-// A page that isn't in a list.
-fn outside_hint(written: &[u8]) -> Option<Hint<'_>> {
-    match first_number(written) {
-        None => None,
-        Some(page) => Some(Hint::Outside(page)),
-    }
-}
-
-// Pages without digits.
-fn routes_hint(written: &[u8]) -> Option<Hint<'_>> {
-    match first_number(written) {
-        None => None,
-        Some(page) => Some(Hint::Routes("0", page)),
-    }
-}
-
 // A value in place of a number.
 fn number_kind_hint(field: Field, kind: ValueKind, written: &[u8]) -> Option<Hint<'_>> {
     match kind {
@@ -96,11 +80,11 @@ fn other_kind_hint(field: Field, kind: ValueKind) -> Option<Hint<'static>> {
 pub(crate) fn kind_hint(field: Field, kind: ValueKind, written: &[u8]) -> Option<Hint<'_>> {
     match field {
         Field::Entry | Field::Price | Field::Group => number_kind_hint(field, kind, written),
-        Field::Outside if has_pages(kind) => outside_hint(written),
+        Field::Outside if has_pages(kind) => Some(Hint::Outside(first_number(written)?)),
         Field::Routes if written.starts_with(b"[[frame") => {
             Some(Hint::Words("write [frame.routes], with one pair of brackets"))
         }
-        Field::Routes if has_pages(kind) => routes_hint(written),
+        Field::Routes if has_pages(kind) => Some(Hint::Routes("0", first_number(written)?)),
         Field::Rows if kind == ValueKind::String => Some(list_hint(written)),
         Field::Id if kind == ValueKind::Integer => Some(page_id_hint(written)),
         _ => other_kind_hint(field, kind),

@@ -113,11 +113,7 @@ pub(crate) fn pence_of(written: &[u8]) -> Option<u32> {
     } else {
         number_of(amount)?
     };
-    if pence <= u32::from(MOST_PENCE) {
-        Some(pence)
-    } else {
-        None
-    }
+    (pence <= u32::from(MOST_PENCE)).then_some(pence)
 }
 
 // The page number of a page's number and letters, as of `620a`.
@@ -125,11 +121,7 @@ pub(crate) fn page_of(written: &[u8]) -> Option<&str> {
     let id = unquoted(written);
     let (page, letters) = id.split_at(run_len(id, Class::Digit));
     let has_letters = !letters.is_empty() && letters.iter().all(|b| b.is_ascii_alphabetic());
-    if !page.is_empty() && has_letters {
-        Some(as_text(page))
-    } else {
-        None
-    }
+    (!page.is_empty() && has_letters).then_some(as_text(page))
 }
 
 // The first number in a value, as of `[6203]`.
@@ -137,9 +129,5 @@ pub(crate) fn first_number(written: &[u8]) -> Option<&str> {
     let start = written.iter().take_while(|b| !b.is_ascii_digit()).count();
     let rest = &written[start..];
     let number = &rest[..run_len(rest, Class::Digit)];
-    if number.is_empty() {
-        None
-    } else {
-        Some(as_text(number))
-    }
+    (!number.is_empty()).then_some(as_text(number))
 }

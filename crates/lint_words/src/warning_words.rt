@@ -8,7 +8,7 @@ use crate::code::Code;
 use crate::hint::hint_of;
 use crate::line::Line;
 use crate::piece::Piece::{Grouped, Id, Item, Number, Text};
-use crate::piece::push_pieces;
+use crate::piece::Wording;
 use crate::words::Words;
 use base_text::Field;
 use frame_records::GroupNo;
@@ -18,14 +18,11 @@ use std::alloc::{AllocError, Global};
 fn push_hidden(out: &mut Vec<u8>, id: FrameId, row: usize) -> Result<(), AllocError>
     ensures { OnOk result (out.new.items ≡ out.old.items ++ hidden_message id row) }
 {
-    push_pieces(
-        out,
-        &[
-            Item(Field::Rows, row, Some(id)),
-            Text(" is hidden by the double height of row "),
-            Grouped(row.saturating_sub(1)),
-        ],
-    )
+    out.say(&[
+        Item(Field::Rows, row, Some(id)),
+        Text(" is hidden by the double height of row "),
+        Grouped(row.saturating_sub(1)),
+    ])
 }
 
 /// How a line of a body ends in the file.
@@ -51,66 +48,51 @@ fn line_end_text(end: LineEnd) -> &'static str
 fn push_line_end(out: &mut Vec<u8>, id: FrameId, end: LineEnd) -> Result<(), AllocError>
     ensures { OnOk result (out.new.items ≡ out.old.items ++ line_end_message id end) }
 {
-    push_pieces(
-        out,
-        &[
-            Text("a line of the body of frame "),
-            Id(id),
-            Text(line_end_text(end)),
-        ],
-    )
+    out.say(&[
+        Text("a line of the body of frame "),
+        Id(id),
+        Text(line_end_text(end)),
+    ])
 }
 
 fn push_escape(out: &mut Vec<u8>, id: FrameId, row: usize) -> Result<(), AllocError>
     ensures { OnOk result (out.new.items ≡ out.old.items ++ escape_message id row) }
 {
-    push_pieces(
-        out,
-        &[
-            Item(Field::Rows, row, Some(id)),
-            Text(" has \\u00 in single quotation marks, which is shown as it is"),
-        ],
-    )
+    out.say(&[
+        Item(Field::Rows, row, Some(id)),
+        Text(" has \\u00 in single quotation marks, which is shown as it is"),
+    ])
 }
 
 fn push_shown_escape(out: &mut Vec<u8>, id: FrameId, row: usize) -> Result<(), AllocError>
     ensures { OnOk result (out.new.items ≡ out.old.items ++ shown_escape_message id row) }
 {
-    push_pieces(
-        out,
-        &[
-            Item(Field::Rows, row, Some(id)),
-            Text(" shows an escape as it is written"),
-        ],
-    )
+    out.say(&[
+        Item(Field::Rows, row, Some(id)),
+        Text(" shows an escape as it is written"),
+    ])
 }
 
 fn push_menu(out: &mut Vec<u8>, id: FrameId, row: usize, digit: u64) -> Result<(), AllocError>
     ensures { OnOk result (out.new.items ≡ out.old.items ++ menu_message id row digit) }
 {
-    push_pieces(
-        out,
-        &[
-            Item(Field::Rows, row, Some(id)),
-            Text(" offers key "),
-            Number(digit),
-            Text(", which has no route"),
-        ],
-    )
+    out.say(&[
+        Item(Field::Rows, row, Some(id)),
+        Text(" offers key "),
+        Number(digit),
+        Text(", which has no route"),
+    ])
 }
 
 fn push_unsought(out: &mut Vec<u8>, id: FrameId, group: GroupNo) -> Result<(), AllocError>
     ensures { OnOk result (out.new.items ≡ out.old.items ++ unsought_message id group) }
 {
-    push_pieces(
-        out,
-        &[
-            Text("no key of any frame leads to frame "),
-            Id(id),
-            Text(", which belongs to group "),
-            Number(u64::from(group.get())),
-        ],
-    )
+    out.say(&[
+        Text("no key of any frame leads to frame "),
+        Id(id),
+        Text(", which belongs to group "),
+        Number(u64::from(group.get())),
+    ])
 }
 
 /// The words of a row, counted from 1, whose text the double height of the row above hides.

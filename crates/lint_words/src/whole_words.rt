@@ -1,102 +1,48 @@
 ghost use Rattle.std.specs.Prelude.{◌≡◌, ◌++◌, IfOk, OnOk};
-ghost use Rattle.lint_words.specs.WholeWords.{too_many_frames_words, too_many_outside_words, long_body_words, next_words, duplicate_words, inside_words, whole_code, whole_message, whole_fault_words};
+ghost use Rattle.lint_words.specs.WholeWords.{too_many_words, long_body_words, whole_code, whole_message, whole_fault_words};
 
 use crate::about::whole_about;
 use crate::code::Code;
 use crate::line::Line;
 use crate::piece::Piece::{Grouped, Id, Number, Page, Text};
-use crate::piece::push_pieces;
+use crate::piece::Wording;
 use crate::words::Words;
 use base_text::WholeFault;
 use frame_records::{MOST_BODY, MOST_LISTED};
-use page_ids::{FrameId, PageNo};
+use page_ids::FrameId;
 use std::alloc::{AllocError, Global};
 
-fn push_too_many_frames(out: &mut Vec<u8>, frames: usize) -> Result<(), AllocError>
-    ensures { OnOk result (out.new.items ≡ out.old.items ++ too_many_frames_words frames) }
+// More frames or pages than a base may have.
+fn push_too_many<'a>(
+    out: &mut Vec<u8>,
+    has: &'a str,
+    count: usize,
+    what: &'a str,
+) -> Result<(), AllocError>
+    ensures { OnOk result (out.new.items ≡ out.old.items ++ too_many_words has.now count what.now) }
 {
-    push_pieces(
-        out,
-        &[
-            Text("the base has "),
-            Grouped(frames),
-            Text(" frames, at most "),
-            Grouped(MOST_LISTED),
-            Text(" are allowed"),
-        ],
-    )
-}
-
-fn push_too_many_outside(out: &mut Vec<u8>, pages: usize) -> Result<(), AllocError>
-    ensures { OnOk result (out.new.items ≡ out.old.items ++ too_many_outside_words pages) }
-{
-    push_pieces(
-        out,
-        &[
-            Text("\"outside\" has "),
-            Grouped(pages),
-            Text(" pages, at most "),
-            Grouped(MOST_LISTED),
-            Text(" are allowed"),
-        ],
-    )
+    out.say(&[
+        Text(has),
+        Grouped(count),
+        Text(what),
+        Text(", at most "),
+        Grouped(MOST_LISTED),
+        Text(" are allowed"),
+    ])
 }
 
 fn push_long_body(out: &mut Vec<u8>, id: FrameId, length: usize) -> Result<(), AllocError>
     ensures { OnOk result (out.new.items ≡ out.old.items ++ long_body_words id length) }
 {
-    push_pieces(
-        out,
-        &[
-            Text("the body of frame "),
-            Id(id),
-            Text(" has "),
-            Grouped(length),
-            Text(" bytes, at most "),
-            Grouped(MOST_BODY),
-            Text(" are allowed"),
-        ],
-    )
-}
-
-fn push_next_after_z(out: &mut Vec<u8>, id: FrameId) -> Result<(), AllocError>
-    ensures { OnOk result (out.new.items ≡ out.old.items ++ next_words id) }
-{
-    push_pieces(
-        out,
-        &[
-            Text("frame "),
-            Id(id),
-            Text(" has \"next\", but z is the last frame of a page"),
-        ],
-    )
-}
-
-fn push_duplicate(out: &mut Vec<u8>, id: FrameId, first_line: usize) -> Result<(), AllocError>
-    ensures { OnOk result (out.new.items ≡ out.old.items ++ duplicate_words id first_line) }
-{
-    push_pieces(
-        out,
-        &[
-            Text("frame "),
-            Id(id),
-            Text(" is defined already on line "),
-            Number(first_line as u64),
-        ],
-    )
-}
-
-fn push_inside(out: &mut Vec<u8>, page: PageNo) -> Result<(), AllocError>
-    ensures { OnOk result (out.new.items ≡ out.old.items ++ inside_words page) }
-{
-    push_pieces(
-        out,
-        &[
-            Text("page "),
-            Page(page),
-            Text(" is listed as outside, but the base has a frame of it"),
-        ],
-    )
+    out.say(&[
+        Text("the body of frame "),
+        Id(id),
+        Text(" has "),
+        Grouped(length),
+        Text(" bytes, at most "),
+        Grouped(MOST_BODY),
+        Text(" are allowed"),
+    ])
 }
 
 fn code_of(fault: &WholeFault) -> Code
@@ -115,12 +61,25 @@ fn push_message(out: &mut Vec<u8>, fault: &WholeFault, first_line: usize) -> Res
     ensures { OnOk result (out.new.items ≡ out.old.items ++ whole_message fault.now first_line) }
 {
     match fault {
-        WholeFault::TooManyFrames(n) => push_too_many_frames(out, *n),
-        WholeFault::TooManyOutside(n) => push_too_many_outside(out, *n),
+        WholeFault::TooManyFrames(n) => push_too_many(out, "the base has ", *n, " frames"),
+        WholeFault::TooManyOutside(n) => push_too_many(out, "\"outside\" has ", *n, " pages"),
         WholeFault::BodyTooLong { id, length, .. } => push_long_body(out, *id, *length),
-        WholeFault::NextAfterZ { id, .. } => push_next_after_z(out, *id),
-        WholeFault::Duplicate { id, .. } => push_duplicate(out, *id, first_line),
-        WholeFault::OutsideInside(page) => push_inside(out, *page),
+        WholeFault::NextAfterZ { id, .. } => out.say(&[
+            Text("frame "),
+            Id(*id),
+            Text(" has \"next\", but z is the last frame of a page"),
+        ]),
+        WholeFault::Duplicate { id, .. } => out.say(&[
+            Text("frame "),
+            Id(*id),
+            Text(" is defined already on line "),
+            Number(first_line as u64),
+        ]),
+        WholeFault::OutsideInside(page) => out.say(&[
+            Text("page "),
+            Page(*page),
+            Text(" is listed as outside, but the base has a frame of it"),
+        ]),
     }
 }
 

@@ -4,6 +4,7 @@ ghost use Rattle.std.specs.Prelude.{◌≤◌, ◌<◌, length};
 
 use crate::backwards::Turn;
 use crate::near_bytes::{Class, ends_key, run_len, run_start};
+use crate::near_key::FIELDS;
 use base_text::Field;
 use toml_parser::bytes::byte_at;
 
@@ -28,21 +29,6 @@ pub(crate) fn name_before(text: &[u8], after: usize) -> &[u8] {
     let equals = after.min(text.len()).saturating_sub(1);
     part_before(text, equals)
 }
-
-// The keys of the top and of a frame.
-const FIELDS: &[Field] = &[
-    Field::Entry,
-    Field::Outside,
-    Field::Frame,
-    Field::Id,
-    Field::Price,
-    Field::Group,
-    Field::Next,
-    Field::Routes,
-    Field::Lead,
-    Field::Body,
-    Field::Rows,
-];
 
 // The key of a name, or `routes` for a digit.
 pub(crate) fn named_field(name: &[u8]) -> Option<Field> {

@@ -4,6 +4,7 @@ ghost use Rattle.std.specs.Prelude.{◌≡◌, IfOk};
 ghost use Rattle.slip_fixes.specs.NearKeys.{begin_alike, is_step_away, first_near, near_field};
 
 use base_text::Field;
+use lint_words::FIELDS;
 use std::alloc::{AllocError, Global};
 use strsim::osa_distance;
 
@@ -43,21 +44,5 @@ fn first_near(alloc: Global, key: &str, fields: &[Field]) -> Result<Option<Field
 pub fn near_field(alloc: Global, key: &str) -> Result<Option<Field>, AllocError>
     ensures { IfOk result (λ field. field ≡ near_field key.now) }
 {
-    first_near(
-        alloc,
-        key,
-        &[
-            Field::Entry,
-            Field::Outside,
-            Field::Frame,
-            Field::Id,
-            Field::Price,
-            Field::Group,
-            Field::Next,
-            Field::Routes,
-            Field::Lead,
-            Field::Body,
-            Field::Rows,
-        ],
-    )
+    first_near(alloc, key, FIELDS)
 }

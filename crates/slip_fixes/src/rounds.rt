@@ -57,13 +57,11 @@ fn fixes_of(
 fn reads_to(findings: &[Finding]) -> Option<usize>
     ensures { result ≡ reads_to findings.now }
 {
-    match findings.split_first() {
-        Some((first, _)) => match first.words.code() {
-            Code::NotToml => Some(first.span.begin),
-            Code::TooLong => Some(0),
-            _ => None,
-        },
-        None => None,
+    let (first, _) = findings.split_first()?;
+    match first.words.code() {
+        Code::NotToml => Some(first.span.begin),
+        Code::TooLong => Some(0),
+        _ => None,
     }
 }
 

@@ -7,6 +7,7 @@ ghost use Rattle.slip_fixes.specs.TomlSlips.{small_truth, without_zeros, new_wor
 use crate::bytes::{after_zeros, is_number};
 use crate::value_slips::takes_number;
 use base_text::Field;
+use lint_words::FIELDS;
 
 // A truth value with capital letters.
 fn small_truth(word: &[u8]) -> Option<&[u8]>
@@ -82,17 +83,13 @@ fn ends_long(bytes: &[u8]) -> bool
 pub fn new_escape(escape: &[u8]) -> Option<&'static [u8]>
     ensures { option_map (λ text. text.now) result ≡ new_escape escape.now }
 {
-    match escape.split_first() {
-        Some((letter, rest)) => {
-            if *letter == b'u' && ends_pair(rest) {
-                Some(b"u00")
-            } else if *letter == b'U' && ends_long(rest) {
-                Some(b"u")
-            } else {
-                None
-            }
-        }
-        None => None,
+    let (letter, rest) = escape.split_first()?;
+    if *letter == b'u' && ends_pair(rest) {
+        Some(b"u00")
+    } else if *letter == b'U' && ends_long(rest) {
+        Some(b"u")
+    } else {
+        None
     }
 }
 
@@ -114,22 +111,7 @@ fn is_named(fields: &[Field], key: &[u8]) -> bool
 fn is_known(key: &[u8]) -> bool
     ensures { result ≡ is_known key.now }
 {
-    is_named(
-        &[
-            Field::Entry,
-            Field::Outside,
-            Field::Frame,
-            Field::Id,
-            Field::Price,
-            Field::Group,
-            Field::Next,
-            Field::Routes,
-            Field::Lead,
-            Field::Body,
-            Field::Rows,
-        ],
-        key,
-    )
+    is_named(FIELDS, key)
 }
 
 /// What takes the place of a colon after this key.

@@ -42,15 +42,11 @@ fn closed_number(bytes: &[u8]) -> Option<&[u8]>
 fn quoted_number(value: &[u8]) -> Option<&[u8]>
     ensures { option_map (λ number. number.now) result ≡ quoted_number value.now }
 {
-    match value.split_first() {
-        Some((open, rest)) => {
-            if is_quote(*open) {
-                closed_number(rest)
-            } else {
-                None
-            }
-        }
-        None => None,
+    let (open, rest) = value.split_first()?;
+    if is_quote(*open) {
+        closed_number(rest)
+    } else {
+        None
     }
 }
 
@@ -125,14 +121,10 @@ fn capital_before(bytes: &[u8]) -> Option<u8>
 pub fn quoted_capital(piece: &[u8]) -> Option<u8>
     ensures { result ≡ quoted_capital piece.now }
 {
-    match piece.split_first() {
-        Some((open, rest)) => {
-            if is_quote(*open) {
-                capital_before(after_digits(rest))
-            } else {
-                None
-            }
-        }
-        None => None,
+    let (open, rest) = piece.split_first()?;
+    if is_quote(*open) {
+        capital_before(after_digits(rest))
+    } else {
+        None
     }
 }

@@ -126,32 +126,6 @@ table_keeps old new ms m h at_top noted =
       routes = λ q. noted.routes q ∙ rw (h.routes q, ← begins-two routes_key q m.path) (sym (inside (spot_of 1) ms m None (routes_key ∷ q ∷ []) here));
     }
 
--- a frame without places is as good as none
-same_seen : {X : Type 0} (see : Option TablePlaces → Option X) (f : TablePlaces) → see (Some f) ≡ see None → (xs : List TablePlaces) (k : ℕ) → see (slice_get (xs ++ f ∷ []) k) ≡ see (slice_get xs k)
-same_seen see f h [] zero = h
-same_seen see f h [] (suc k) = refl
-same_seen see f h (y ∷ ys) zero = refl
-same_seen see f h (y ∷ ys) (suc k) = same_seen see f h ys k
-
-pub keeps_new : (old new : Places) (ms : List Mark) (f : TablePlaces) → Keeps old ms → new.top ≡ old.top → new.frames.items ≡ old.frames.items ++ f ∷ []
-    → f.header ≡ None → ((q : List ℕ) → get_by_text f.keys q ≡ None) → ((q : List ℕ) → get_by_text f.routes q ≡ None) → Keeps new ms
-keeps_new old new ms f h same_top added no_header no_keys no_routes =
-    let xs = old.frames.items in
-    record {
-      tops = λ q. rw same_top (h.tops q);
-      headers = λ k. rw added (same_seen header_in f no_header xs k ∙ h.headers k);
-      keys = λ k q. rw added (same_seen (λ o. key_in o q) f (no_keys q) xs k ∙ h.keys k q);
-      routes = λ k q. rw added (same_seen (λ o. route_in o q) f (no_routes q) xs k ∙ h.routes k q);
-    }
-
-pub keeps_none : (p : Places) → ((q : List ℕ) → get_by_text p.top q ≡ None) → p.frames.items ≡ [] → Keeps p []
-keeps_none p no_keys no_frames = record {
-  tops = no_keys;
-  headers = λ k. rw no_frames refl;
-  keys = λ k q. rw no_frames refl;
-  routes = λ k q. rw no_frames refl;
-}
-
 pub length-path : (xs ys : List (String Global)) → length (path_view xs ++ path_view ys) ≡ length xs + length ys
 length-path xs ys = length-append (path_view xs) (path_view ys) ∙ rw (length-map xs _, length-map ys _) refl
 

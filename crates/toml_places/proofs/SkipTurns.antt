@@ -1,11 +1,11 @@
 -- The loops of the definitions, a turn at a time.
-use Rattle.std.proofs.Common.{◌≡◌, ℕ, zero, suc, ◌-◌, ◌<◌, cond, true, false, ◌||◌, ◌==◌, List, [], ◌∷◌, length, drop, Option, Some, None, option_map, option_and_then, refl, arith}
+use Rattle.std.proofs.Common.{◌≡◌, ℕ, zero, suc, ◌-◌, ◌<◌, cond, true, false, ◌||◌, ◌==◌, List, [], ◌∷◌, length, drop, Option, Some, None, option_and_then, refl, arith}
 use Rattle.std.proofs.lemmas.Bool.{false≢true}
 use Rattle.std.proofs.lemmas.Bool.Decides.{nat_tests}
 use Rattle.toml_parser.specs.Lexical.{first, is_word, skip_blank}
 use Rattle.toml_parser.specs.Numbers.{word_len}
 use Rattle.toml.specs.Parse.{after_element}
-use Rattle.toml_places.specs.Values.{after_word, after_atom, after_member, after_members, after_value, next_element, element_from}
+use Rattle.toml_places.specs.Values.{after_word, after_atom, after_member, after_members, after_value}
 
 pub members_turn : (after : List ℕ → Option (List ℕ)) (closing m : ℕ) (text : List ℕ) → length text < m
     → after_members after closing m text
@@ -47,12 +47,3 @@ value_deep (c ∷ cs) h =
     let not_word : is_word c ≡ false = grind (arith, nat_tests) in
     let not_space : (c == 32) ≡ false = grind (arith, nat_tests) in
     rw (not_quote, not_apostrophe, not_word, not_space)
-
-pub element_turn : (k : ℕ) (text : List ℕ) → 0 < k → element_from k text ≡ option_and_then (λ e. element_from (k - 1) e.1) (next_element text)
-unfolding element_from
-element_turn zero text some = absurd (omega arith)
-element_turn (suc k) text some = let less : suc k - 1 ≡ k = omega arith in rw less
-
-pub element_here : (text : List ℕ) → element_from 0 text ≡ option_map (λ e. e.0) (next_element text)
-unfolding element_from
-element_here text = refl

@@ -10,7 +10,7 @@ use Rattle.std.specs.Char.{is_digit, encode_utf8}
 use Rattle.std.specs.Str.Parse.{digits_value}
 use Rattle.toml_parser.specs.Lexical.{first, starts_newline, skip_ws, skip_lines}
 use Rattle.toml_parser.specs.Strings as toml
-use Rattle.toml_parser.specs.Strings.{is_plain, special, body, after_piece, simple_escape, hex_len, hex_escape, escape_char, is_scalar, prepend, quoted, one_line, trim_newline, starts_string}
+use Rattle.toml_parser.specs.Strings.{is_plain, special, body, after_piece, simple_escape, hex_len, hex_escape, escape_char, is_scalar, quoted, one_line, trim_newline, starts_string}
 use Rattle.toml_parser.proofs.StringsLemmas.{body_plain, body_special}
 use Rattle.toml_places.specs.declared.strings.Step.{Step}
 use Rattle.toml_places.specs.declared.strings.Step.TheVariants.{End, Cut, Char}
