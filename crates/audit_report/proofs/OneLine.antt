@@ -13,7 +13,7 @@ use Rattle.audit_report.specs.Lines.{ended_line, with_id}
 use Rattle.audit_report.specs.ReportLines.{script_text}
 use Rattle.audit_report.specs.declared.list_form.ListForm.{ListForm}
 use Rattle.audit_report.specs.declared.list_form.ListForm.TheVariants.{Line, Json}
-use Rattle.audit_report.specs.Listing.{with_or_dash, price_and_group, with_or_null, price_and_group_members, script_member, frame_line, unreached_line, is_no_newline, IsOneLine, AreOneLines}
+use Rattle.audit_report.specs.Listing.{with_or, price_and_group, price_and_group_members, script_member, frame_line, unreached_line, is_no_newline, IsOneLine, AreOneLines}
 
 abbrev InLine : List ℕ → Type 0
 InLine bs = list_all is_no_newline bs ≡ true
@@ -44,21 +44,17 @@ in_script : (keys : List Key) → InLine (script_text keys)
 in_script [] = refl
 in_script (key ∷ keys) = joined (codes " SCRIPT ") (keys_text (key ∷ keys)) refl (in_keys (key ∷ keys))
 
-in_or_dash : (words : List ℕ) (number : Option ℕ) → InLine words → InLine (with_or_dash words number)
-in_or_dash words (Some n) h = joined words (decimal n) h (in_decimal n)
-in_or_dash words None h = joined words (codes "-") h refl
-
-in_or_null : (words : List ℕ) (number : Option ℕ) → InLine words → InLine (with_or_null words number)
-in_or_null words (Some n) h = joined words (decimal n) h (in_decimal n)
-in_or_null words None h = joined words (codes "null") h refl
+in_or : (none words : List ℕ) (number : Option ℕ) → InLine none → InLine words → InLine (with_or none words number)
+in_or none words (Some n) is h = joined words (decimal n) h (in_decimal n)
+in_or none words None is h = joined words none h is
 
 in_price_and_group : (f : Frame) → InLine (price_and_group f)
 in_price_and_group f =
-    joined (codes " PRICE " ++ decimal f.price) (with_or_dash (codes " GROUP ") f.group) (joined (codes " PRICE ") (decimal f.price) refl (in_decimal f.price)) (in_or_dash (codes " GROUP ") f.group refl)
+    joined (codes " PRICE " ++ decimal f.price) (with_or (codes "-") (codes " GROUP ") f.group) (joined (codes " PRICE ") (decimal f.price) refl (in_decimal f.price)) (in_or (codes "-") (codes " GROUP ") f.group refl refl)
 
 in_members : (f : Frame) → InLine (price_and_group_members f)
 in_members f =
-    joined (codes ",\"price\":" ++ decimal f.price) (with_or_null (codes ",\"group\":") f.group) (joined (codes ",\"price\":") (decimal f.price) refl (in_decimal f.price)) (in_or_null (codes ",\"group\":") f.group refl)
+    joined (codes ",\"price\":" ++ decimal f.price) (with_or (codes "null") (codes ",\"group\":") f.group) (joined (codes ",\"price\":") (decimal f.price) refl (in_decimal f.price)) (in_or (codes "null") (codes ",\"group\":") f.group refl refl)
 
 in_script_member : (keys : List Key) → InLine (script_member keys)
 in_script_member keys =
@@ -71,16 +67,16 @@ one_line text h = record { text = text; ends = refl; one = h }
 frame_one : (f : Frame) → IsLetter f.id.letter → (form : ListForm) (rank : Option ℕ) (keys : List Key) → IsOneLine (frame_line form f rank keys)
 frame_one f is Line rank keys =
     let a = with_id (codes "FRAME ") f.id in
-    let b = with_or_dash (codes " RANK ") rank in
+    let b = with_or (codes "-") (codes " RANK ") rank in
     one_line (a ++ b ++ price_and_group f ++ script_text keys)
-    (joined (a ++ b ++ price_and_group f) (script_text keys) (joined (a ++ b) (price_and_group f) (joined a b (in_id (codes "FRAME ") f.id refl is) (in_or_dash (codes " RANK ") rank refl)) (in_price_and_group f)) (in_script keys))
+    (joined (a ++ b ++ price_and_group f) (script_text keys) (joined (a ++ b) (price_and_group f) (joined a b (in_id (codes "FRAME ") f.id refl is) (in_or (codes "-") (codes " RANK ") rank refl refl)) (in_price_and_group f)) (in_script keys))
 frame_one f is Json rank keys =
     let a = with_id (codes "{\"frame\":\"") f.id in
-    let b = with_or_null (codes "\",\"reached\":true,\"rank\":") rank in
+    let b = with_or (codes "null") (codes "\",\"reached\":true,\"rank\":") rank in
     let c = a ++ b ++ price_and_group_members f in
     one_line (c ++ script_member keys)
     (joined c (script_member keys)
-    (joined (a ++ b) (price_and_group_members f) (joined a b (in_id (codes "{\"frame\":\"") f.id refl is) (in_or_null (codes "\",\"reached\":true,\"rank\":") rank refl)) (in_members f))
+    (joined (a ++ b) (price_and_group_members f) (joined a b (in_id (codes "{\"frame\":\"") f.id refl is) (in_or (codes "null") (codes "\",\"reached\":true,\"rank\":") rank refl refl)) (in_members f))
     (in_script_member keys))
 
 unreached_one : (f : Frame) → IsLetter f.id.letter → (form : ListForm) → IsOneLine (unreached_line form f)

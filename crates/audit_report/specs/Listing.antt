@@ -19,29 +19,21 @@ use Rattle.audit_report.specs.declared.list_form.ListForm.{ListForm}
 use Rattle.audit_report.specs.declared.list_form.ListForm.TheVariants as form_of
 use Rattle.audit_report.specs.declared.reached.Reached.{Reached}
 
--- a number, or `-` if there is none
-abbrev pub or_dash : Option ℕ → List ℕ
-or_dash (Some n) = decimal n
-or_dash None = codes "-"
+-- a number, or other words if there is none
+abbrev pub or_none : List ℕ → Option ℕ → List ℕ
+or_none none (Some n) = decimal n
+or_none none None = none
 
-abbrev pub with_or_dash : List ℕ → Option ℕ → List ℕ
-with_or_dash words number = words ++ or_dash number
+abbrev pub with_or : List ℕ → List ℕ → Option ℕ → List ℕ
+with_or none words number = words ++ or_none none number
 
 -- what a frame costs, and the group to which it is open
 abbrev pub price_and_group : Frame → List ℕ
-price_and_group f = (codes " PRICE " ++ decimal f.price) ++ with_or_dash (codes " GROUP ") f.group
-
--- a number, or null if there is none
-abbrev pub or_null : Option ℕ → List ℕ
-or_null (Some n) = decimal n
-or_null None = codes "null"
-
-abbrev pub with_or_null : List ℕ → Option ℕ → List ℕ
-with_or_null words number = words ++ or_null number
+price_and_group f = (codes " PRICE " ++ decimal f.price) ++ with_or (codes "-") (codes " GROUP ") f.group
 
 -- the same two as members of an object
 abbrev pub price_and_group_members : Frame → List ℕ
-price_and_group_members f = (codes ",\"price\":" ++ decimal f.price) ++ with_or_null (codes ",\"group\":") f.group
+price_and_group_members f = (codes ",\"price\":" ++ decimal f.price) ++ with_or (codes "null") (codes ",\"group\":") f.group
 
 -- the keys that lead to a frame, as the last member of an object
 abbrev pub script_member : List Key → List ℕ
@@ -50,9 +42,9 @@ script_member keys = codes ",\"script\":\"" ++ keys_text keys ++ codes "\"}"
 -- a frame that is reached: its rank, and the keys that lead to it
 abbrev pub frame_line : ListForm → Frame → Option ℕ → List Key → List ℕ
 frame_line form_of.Line f rank keys =
-    ended_line (with_id (codes "FRAME ") f.id ++ with_or_dash (codes " RANK ") rank ++ price_and_group f ++ script_text keys)
+    ended_line (with_id (codes "FRAME ") f.id ++ with_or (codes "-") (codes " RANK ") rank ++ price_and_group f ++ script_text keys)
 frame_line form_of.Json f rank keys =
-    ended_line (with_id (codes "{\"frame\":\"") f.id ++ with_or_null (codes "\",\"reached\":true,\"rank\":") rank ++ price_and_group_members f
+    ended_line (with_id (codes "{\"frame\":\"") f.id ++ with_or (codes "null") (codes "\",\"reached\":true,\"rank\":") rank ++ price_and_group_members f
     ++ script_member keys)
 
 -- one that isn't

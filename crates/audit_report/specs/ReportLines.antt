@@ -5,9 +5,9 @@ use Rattle.page_ids.specs.Keys.{key_word, keys_text}
 use Rattle.page_ids.specs.declared.key.Key.{Key}
 use Rattle.abstract_paint.specs.declared.start.Start.{Start}
 use Rattle.cert_text.specs.Grammar.{certificate_text, IsCertificateText}
-use Rattle.fault_scripts.specs.declared.fault.Fault.{Fault}
-use Rattle.fault_scripts.specs.declared.fault.FaultKind.{FaultKind}
-use Rattle.fault_scripts.specs.declared.fault.FaultKind.TheVariants.{EntryMissing, EntryClosed, Price, Touches, Missing, Closed, NoReturn}
+use Rattle.base_faults.specs.declared.fault.Fault.{Fault}
+use Rattle.base_faults.specs.declared.fault.FaultKind.{FaultKind}
+use Rattle.base_faults.specs.declared.fault.FaultKind.TheVariants.{EntryMissing, EntryClosed, Price, Touches, Missing, Closed, NoReturn}
 use Rattle.fault_scripts.specs.declared.outcome.Outcome.{Outcome}
 use Rattle.fault_scripts.specs.declared.outcome.Outcome.TheVariants.{Certified, Faulty}
 use Rattle.audit_report.specs.Lines.{ended_line, with_id, with_id_number}

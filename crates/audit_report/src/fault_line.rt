@@ -14,8 +14,7 @@ fn push_field(out: &mut Vec<u8>, words: &[u8], field: Field) -> Result<(), Alloc
     ensures { OnOk result (out.new.items ≡ out.old.items ++ (words.now ++ field_name field)) }
 {
     out.extend_from_slice(words)?;
-    out.extend_from_slice(field.name().as_bytes())?;
-    Ok(())
+    out.extend_from_slice(field.name().as_bytes())
 }
 
 fn push_base_cause(out: &mut Vec<u8>, cause: BaseCause) -> Result<(), AllocError>
@@ -60,8 +59,7 @@ fn push_base_fault(out: &mut Vec<u8>, edition: &[u8], fault: &BaseFault) -> Resu
 {
     out.extend_from_slice(edition)?;
     push_base_place(out, fault.frame)?;
-    push_base_cause(out, fault.cause)?;
-    Ok(())
+    push_base_cause(out, fault.cause)
 }
 
 fn cause_name(cause: LineCause) -> &'static [u8]
@@ -101,8 +99,7 @@ fn push_failed(out: &mut Vec<u8>, edition: &[u8]) -> Result<(), AllocError>
     ensures { OnOk result (out.new.items ≡ out.old.items ++ cert_fault_text edition.now ReadFault.Failed) }
 {
     out.extend_from_slice(edition)?;
-    out.extend_from_slice(b"certificate: failed")?;
-    Ok(())
+    out.extend_from_slice(b"certificate: failed")
 }
 
 fn push_cert_fault(out: &mut Vec<u8>, edition: &[u8], fault: ReadFault) -> Result<(), AllocError>
@@ -120,8 +117,7 @@ fn push_count(out: &mut Vec<u8>, words: &[u8], count: u64, after: &[u8]) -> Resu
     ensures { OnOk result (out.new.items ≡ out.old.items ++ ((words.now ++ decimal count) ++ after.now)) }
 {
     push_words_number(out, words, count)?;
-    out.extend_from_slice(after)?;
-    Ok(())
+    out.extend_from_slice(after)
 }
 
 fn push_fault(out: &mut Vec<u8>, fault: &RunFault) -> Result<(), AllocError>

@@ -5,7 +5,7 @@ ghost use Rattle.std.specs.Vec.{vec_len, vec_capacity};
 ghost use Rattle.page_ids.specs.Keys.{key_word, keys_text};
 ghost use Rattle.audit_report.specs.Lines.{with_id};
 ghost use Rattle.audit_report.specs.ReportLines.{script_text};
-ghost use Rattle.audit_report.specs.Listing.{with_or_dash, with_or_null, price_and_group, price_and_group_members, script_member, frame_line, unreached_line};
+ghost use Rattle.audit_report.specs.Listing.{with_or, price_and_group, price_and_group_members, script_member, frame_line, unreached_line};
 ghost use Rattle.audit_report.specs.declared.list_form.ListForm.TheVariants.{Line as InLine, Json as InJson};
 
 use crate::list_form::ListForm;
@@ -36,29 +36,17 @@ fn push_id(out: &mut Vec<u8>, words: &[u8], id: FrameId)
 }
 
 // The text of a number has at most 40 bytes.
-fn push_or_dash(out: &mut Vec<u8>, words: &[u8], number: Option<u64>)
+fn push_or(out: &mut Vec<u8>, words: &[u8], number: Option<u64>, none: &[u8])
     requires room { vec_len out.old + (length words.now + 40) ≤ vec_capacity out.old }
-    ensures items { out.new.items ≡ out.old.items ++ with_or_dash words.now number }
+    requires short { length none.now ≤ 40 }
+    ensures items { out.new.items ≡ out.old.items ++ with_or none.now words.now number }
     ensures len { vec_len out.new ≤ vec_len out.old + (length words.now + 40) }
     ensures capacity { vec_capacity out.old ≤ vec_capacity out.new }
 {
     push_bytes(out, words);
     match number {
         Some(number) => push_bytes(out, Buffer::new().format(number).as_bytes()),
-        None => push_bytes(out, b"-"),
-    }
-}
-
-fn push_or_null(out: &mut Vec<u8>, words: &[u8], number: Option<u64>)
-    requires room { vec_len out.old + (length words.now + 40) ≤ vec_capacity out.old }
-    ensures items { out.new.items ≡ out.old.items ++ with_or_null words.now number }
-    ensures len { vec_len out.new ≤ vec_len out.old + (length words.now + 40) }
-    ensures capacity { vec_capacity out.old ≤ vec_capacity out.new }
-{
-    push_bytes(out, words);
-    match number {
-        Some(number) => push_bytes(out, Buffer::new().format(number).as_bytes()),
-        None => push_bytes(out, b"null"),
+        None => push_bytes(out, none),
     }
 }
 
@@ -108,15 +96,13 @@ fn push_script(out: &mut Vec<u8>, keys: &[Key])
 fn number_of(group: Option<GroupNo>) -> Option<u64>
     ensures { result ≡ group }
 {
-    let group = group?;
-    Some(u64::from(group.get()))
+    Some(u64::from(group?.get()))
 }
 
 fn rank_number(rank: Option<u16>) -> Option<u64>
     ensures { result ≡ rank }
 {
-    let rank = rank?;
-    Some(u64::from(rank))
+    Some(u64::from(rank?))
 }
 
 fn push_price_and_group(out: &mut Vec<u8>, frame: &Frame)
@@ -125,8 +111,8 @@ fn push_price_and_group(out: &mut Vec<u8>, frame: &Frame)
     ensures len { vec_len out.new ≤ vec_len out.old + 94 }
     ensures capacity { vec_capacity out.old ≤ vec_capacity out.new }
 {
-    push_or_dash(out, b" PRICE ", Some(u64::from(frame.price.get())));
-    push_or_dash(out, b" GROUP ", number_of(frame.group));
+    push_or(out, b" PRICE ", Some(u64::from(frame.price.get())), b"-");
+    push_or(out, b" GROUP ", number_of(frame.group), b"-");
 }
 
 // The same two as members of an object.
@@ -136,8 +122,13 @@ fn push_members(out: &mut Vec<u8>, frame: &Frame)
     ensures len { vec_len out.new ≤ vec_len out.old + 98 }
     ensures capacity { vec_capacity out.old ≤ vec_capacity out.new }
 {
-    push_or_null(out, b",\"price\":", Some(u64::from(frame.price.get())));
-    push_or_null(out, b",\"group\":", number_of(frame.group));
+    push_or(
+        out,
+        b",\"price\":",
+        Some(u64::from(frame.price.get())),
+        b"null",
+    );
+    push_or(out, b",\"group\":", number_of(frame.group), b"null");
 }
 
 fn push_script_member(out: &mut Vec<u8>, keys: &[Key])
@@ -158,7 +149,7 @@ fn push_frame_words(out: &mut Vec<u8>, frame: &Frame, rank: Option<u16>, keys: &
     ensures capacity { vec_capacity out.old ≤ vec_capacity out.new }
 {
     push_id(out, b"FRAME ", frame.id);
-    push_or_dash(out, b" RANK ", rank_number(rank));
+    push_or(out, b" RANK ", rank_number(rank), b"-");
     push_price_and_group(out, frame);
     push_script(out, keys);
     push_bytes(out, b"\n");
@@ -171,7 +162,12 @@ fn push_frame_object(out: &mut Vec<u8>, frame: &Frame, rank: Option<u16>, keys: 
     ensures capacity { vec_capacity out.old ≤ vec_capacity out.new }
 {
     push_id(out, b"{\"frame\":\"", frame.id);
-    push_or_null(out, b"\",\"reached\":true,\"rank\":", rank_number(rank));
+    push_or(
+        out,
+        b"\",\"reached\":true,\"rank\":",
+        rank_number(rank),
+        b"null",
+    );
     push_members(out, frame);
     push_script_member(out, keys);
     push_bytes(out, b"\n");

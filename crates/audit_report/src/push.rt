@@ -10,8 +10,7 @@ pub fn push_words_number(out: &mut Vec<u8>, words: &[u8], number: u64) -> Result
     ensures { OnOk result (out.new.items ≡ out.old.items ++ (words.now ++ decimal number)) }
 {
     out.extend_from_slice(words)?;
-    push_number(out, number)?;
-    Ok(())
+    push_number(out, number)
 }
 
 // Words and a page.
@@ -41,6 +40,5 @@ pub fn push_id_number(
 {
     push_words_id(out, words, id)?;
     out.extend_from_slice(b" ")?;
-    push_number(out, number)?;
-    Ok(())
+    push_number(out, number)
 }

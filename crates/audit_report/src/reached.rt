@@ -19,10 +19,7 @@ impl Reached {
     {
         let mut ids = IndexSet::with_capacity(alloc, found.len())?;
         for discovered in found {
-            match ids.insert(discovered.id) {
-                Ok(_) => {}
-                Err(_) => return Err(AllocError),
-            }
+            ids.insert(discovered.id)?;
         }
         Ok(Reached { ids })
     }

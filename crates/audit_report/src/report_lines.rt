@@ -110,8 +110,7 @@ fn push_line(out: &mut Vec<u8>, fault: &Fault) -> Result<(), AllocError>
     ensures { OnOk result (out.new.items ≡ out.old.items ++ ended_line (words_as fault.now.kind fault.now)) }
 {
     push_fault(out, fault)?;
-    out.push(b'\n')?;
-    Ok(())
+    out.extend_from_slice(b"\n")
 }
 
 // How many faults there are.
@@ -119,8 +118,7 @@ fn push_count(out: &mut Vec<u8>, count: u64) -> Result<(), AllocError>
     ensures { OnOk result (out.new.items ≡ out.old.items ++ ended_line (codes "FAULTS " ++ decimal count)) }
 {
     push_words_number(out, b"FAULTS ", count)?;
-    out.push(b'\n')?;
-    Ok(())
+    out.extend_from_slice(b"\n")
 }
 
 fn push_lines(out: &mut Vec<u8>, faults: &[Fault]) -> Result<(), AllocError>

@@ -57,8 +57,7 @@ fn push_edition(out: &mut Vec<u8>, edition: &[u8], cause: Cause) -> Result<(), A
     ensures { OnOk result (out.new.items ≡ out.old.items ++ (edition.now ++ cause_text cause)) }
 {
     out.extend_from_slice(edition)?;
-    push_cause(out, cause)?;
-    Ok(())
+    push_cause(out, cause)
 }
 
 fn push_change(out: &mut Vec<u8>, verdict: &ChangeVerdict) -> Result<(), AllocError>

@@ -23,8 +23,7 @@ fn push_line(out: &mut Vec<u8>, reply: Reply) -> Result<(), AllocError>
     ensures { OnOk result (out.new.items ≡ out.old.items ++ ended_line (reply_text reply)) }
 {
     push_reply(out, reply)?;
-    out.push(b'\n')?;
-    Ok(())
+    out.extend_from_slice(b"\n")
 }
 
 /// A line for each reply, in their order.

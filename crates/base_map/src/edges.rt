@@ -58,18 +58,6 @@ impl<'a> MapDrawing<'a> {
         Ok(())
     }
 
-    fn push_edges_of(
-        &self,
-        alloc: Global,
-        out: &mut Vec<u8>,
-        frame: &Frame,
-    ) -> Result<(), AllocError>
-        ensures { OnOk result (out.new.items ≡ out.old.items ++ spec.edge_lines_of self.now frame.now) }
-    {
-        let targets = targets_of(alloc, frame)?;
-        self.push_edges_to(out, frame, targets.as_slice())
-    }
-
     // Writes the edges of the frames that are shown.
     pub fn push_edges(
         &self,
@@ -82,7 +70,7 @@ impl<'a> MapDrawing<'a> {
     {
         for frame in frames {
             if self.part.shows(frame.id) {
-                self.push_edges_of(alloc, out, frame)?;
+                self.push_edges_to(out, frame, targets_of(alloc, frame)?.as_slice())?;
             }
         }
         Ok(())

@@ -102,15 +102,7 @@ impl<'a> MapDrawing<'a> {
         Ok(lost)
     }
 
-    // The entry frame, and what ways seek.
-    fn lost(&self, alloc: Global, frames: &[Frame]) -> Result<IndexSet<FrameId>, AllocError>
-        ensures { IfOk result (λ lost. lost.keys ≡ spec.lost self.now (frames_shown self.now frames.now)) }
-    {
-        let first = self.lost_entry(alloc)?;
-        self.with_lost(alloc, frames, first)
-    }
-
-    // Writes their nodes.
+    // Writes the nodes of the entry frame and of what ways seek.
     pub fn push_lost(
         &self,
         alloc: Global,
@@ -120,7 +112,8 @@ impl<'a> MapDrawing<'a> {
         ensures { OnOk result (out.new.items
             ≡ out.old.items ++ spec.lost_lines self.now (frames_shown self.now frames.now)) }
     {
-        let lost = self.lost(alloc, frames)?;
+        let first = self.lost_entry(alloc)?;
+        let lost = self.with_lost(alloc, frames, first)?;
         push_lost_nodes(out, self.base, lost.as_slice())
     }
 }

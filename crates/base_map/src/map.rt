@@ -1,12 +1,11 @@
-ghost use Rattle.std.specs.Prelude.{◌≡◌, ◌++◌, IfOk, OnOk};
+ghost use Rattle.std.specs.Prelude.{◌≡◌, IfOk};
 ghost use Rattle.base_map.specs.Map as spec;
 ghost use Rattle.base_map.specs.Map.{IsViewed};
 ghost use Rattle.base_map.specs.Loops as loops;
-ghost use Rattle.base_map.specs.Edges.{frames_shown};
 
 use crate::drawing::MapDrawing;
 use finder::{Discovered, Part, View, find, part_of};
-use frame_records::{Base, Frame, Groups};
+use frame_records::{Base, Groups};
 use indexmap::IndexSet;
 use page_ids::FrameId;
 use std::alloc::{AllocError, Global};
@@ -30,20 +29,6 @@ fn reached(alloc: Global, base: &Base, groups: &Groups) -> Result<IndexSet<Frame
     ids_of(alloc, found.as_slice())
 }
 
-impl<'a> MapDrawing<'a> {
-    // Writes the map, all of whose base's frames these are.
-    fn push_map(&self, alloc: Global, out: &mut Vec<u8>, frames: &[Frame]) -> Result<(), AllocError>
-        ensures { OnOk result (out.new.items
-            ≡ out.old.items ++ spec.lines_of self.now (frames_shown self.now frames.now)) }
-    {
-        out.extend_from_slice(b"digraph {\n  rankdir=LR\n  newrank=true\n  node [shape=box]\n")?;
-        self.push_clusters(alloc, out, frames)?;
-        self.push_lost(alloc, out, frames)?;
-        self.push_edges(alloc, out, frames)?;
-        out.extend_from_slice(b"}\n")
-    }
-}
-
 /// The graph of the frames of a base that a part shows, for a caller of exactly these groups, as a DOT file for Graphviz.
 ///
 /// First come the nodes of the frames in the order of their ids, each page's in a cluster; then the entry frame's if the part
@@ -64,8 +49,13 @@ pub fn map_text(
         reached: reached(alloc, base, groups)?,
         part,
     };
+    let frames = base.frames();
     let mut out = Vec::new(alloc);
-    drawing.push_map(alloc, &mut out, base.frames())?;
+    out.extend_from_slice(b"digraph {\n  rankdir=LR\n  newrank=true\n  node [shape=box]\n")?;
+    drawing.push_clusters(alloc, &mut out, frames)?;
+    drawing.push_lost(alloc, &mut out, frames)?;
+    drawing.push_edges(alloc, &mut out, frames)?;
+    out.extend_from_slice(b"}\n")?;
     Ok(out)
 }
 

@@ -17,8 +17,7 @@ fn push_label(alloc: Global, out: &mut Vec<u8>, frame: &Frame) -> Result<(), All
     push_id(out, frame.id)?;
     push_title(alloc, out, frame.body.as_slice())?;
     out.extend_from_slice(b"\\nPRICE ")?;
-    push_number(out, frame.price.get() as u64)?;
-    Ok(())
+    push_number(out, frame.price.get() as u64)
 }
 
 // Begins the cluster of a page.
@@ -29,8 +28,7 @@ fn push_open(out: &mut Vec<u8>, page: PageNo) -> Result<(), AllocError>
     push_page(out, page)?;
     out.extend_from_slice(b" {\n    label=")?;
     push_page(out, page)?;
-    out.extend_from_slice(b"\n")?;
-    Ok(())
+    out.extend_from_slice(b"\n")
 }
 
 // Ends the cluster of a page, if there is one.

@@ -30,9 +30,9 @@ use Rattle.finder.specs.Finds.{IsReached, script}
 use Rattle.finder.specs.Parts.{part_shows}
 use Rattle.frame_screens.specs.Frames.{place_of}
 use Rattle.checker.specs.declared.policy.Policy.{Policy}
-use Rattle.fault_scripts.specs.declared.fault.Fault.{Fault}
-use Rattle.fault_scripts.specs.declared.fault.FaultKind.{FaultKind}
-use Rattle.fault_scripts.specs.declared.fault.FaultKind.TheVariants as kind
+use Rattle.base_faults.specs.declared.fault.Fault.{Fault}
+use Rattle.base_faults.specs.declared.fault.FaultKind.{FaultKind}
+use Rattle.base_faults.specs.declared.fault.FaultKind.TheVariants as kind
 use Rattle.fault_scripts.specs.declared.outcome.Outcome.TheVariants.{Certified, Faulty}
 use Rattle.fault_scripts.specs.Faults.{AreFaults, AreFaultsBy, AreFaultsAlong, IsDueAs, KeyIsDue, key_fault}
 use Rattle.screens.specs.declared.look.Look.{Look}

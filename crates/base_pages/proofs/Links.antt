@@ -29,7 +29,7 @@ use Rattle.frame_records.specs.Seek.{is_open, sought_of}
 use Rattle.frame_records.specs.Ways.{sought, sought_by, offered_by, destination_of}
 use Rattle.frame_records.proofs.Finds.{first_found}
 use Rattle.frame_records.proofs.OneBase.{first_in, later_in, first_or_later}
-use Rattle.fault_scripts.specs.declared.fault.Fault.{Fault}
+use Rattle.base_faults.specs.declared.fault.Fault.{Fault}
 use Rattle.finder.specs.Parts.{part_shows}
 use Rattle.screens.specs.declared.writing.Writing.TheVariants.{Plain}
 use Rattle.screens.specs.Writing.{written}

@@ -15,7 +15,7 @@ use Rattle.frame_records.specs.Bases.{BaseView}
 use Rattle.frame_records.specs.Seek.{entry_of}
 use Rattle.frame_records.specs.Ways.{destination_of}
 use Rattle.checker.specs.declared.policy.Policy.{Policy}
-use Rattle.fault_scripts.specs.declared.fault.Fault.{Fault}
+use Rattle.base_faults.specs.declared.fault.Fault.{Fault}
 use Rattle.fault_scripts.specs.declared.outcome.Outcome.{Outcome}
 use Rattle.fault_scripts.specs.declared.outcome.Outcome.TheVariants.{Certified, Faulty}
 use Rattle.audit_report.specs.ReportLines.{words_as}

@@ -7,9 +7,9 @@ use Rattle.terminal_codes.specs.declared.caret.Caret.{Caret}
 use Rattle.terminal_codes.specs.Bodies.{lead_codes}
 use Rattle.terminal_codes.specs.Writes.{caret_run}
 use Rattle.abstract_paint.specs.declared.start.Start.{Start}
-use Rattle.fault_scripts.specs.declared.fault.Fault.{Fault}
-use Rattle.fault_scripts.specs.declared.fault.FaultKind.{FaultKind}
-use Rattle.fault_scripts.specs.declared.fault.FaultKind.TheVariants.{EntryMissing, EntryClosed, Price, Touches, Missing, Closed, NoReturn}
+use Rattle.base_faults.specs.declared.fault.Fault.{Fault}
+use Rattle.base_faults.specs.declared.fault.FaultKind.{FaultKind}
+use Rattle.base_faults.specs.declared.fault.FaultKind.TheVariants.{EntryMissing, EntryClosed, Price, Touches, Missing, Closed, NoReturn}
 use Rattle.audit_report.specs.ReportLines.{words_as}
 use Rattle.screens.specs.Svg.{Piece}
 use Rattle.base_pages.specs.Elements.{element_pieces, around}

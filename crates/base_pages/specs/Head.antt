@@ -9,7 +9,7 @@ use Rattle.cert_table.specs.declared.limits.TheConstants.{MOST_RANK}
 use Rattle.cert_table.specs.Table.{CertView}
 use Rattle.cert_text.specs.Grammar.{spaced_groups}
 use Rattle.checker.specs.declared.policy.Policy.{Policy}
-use Rattle.fault_scripts.specs.declared.fault.Fault.{Fault}
+use Rattle.base_faults.specs.declared.fault.Fault.{Fault}
 use Rattle.fault_scripts.specs.declared.outcome.Outcome.{Outcome}
 use Rattle.fault_scripts.specs.declared.outcome.Outcome.TheVariants.{Certified, Faulty}
 use Rattle.screens.specs.Svg.{Piece, markup}

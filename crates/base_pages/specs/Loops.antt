@@ -7,7 +7,7 @@ use Rattle.page_ids.specs.Ids.{Id, id_eq}
 use Rattle.frame_records.specs.Bases.{BaseView}
 use Rattle.finder.specs.Finds.{IsFinding}
 use Rattle.checker.specs.declared.policy.Policy.{Policy}
-use Rattle.fault_scripts.specs.declared.fault.Fault.{Fault}
+use Rattle.base_faults.specs.declared.fault.Fault.{Fault}
 use Rattle.fault_scripts.specs.Outcomes.{IsOutcome}
 use Rattle.abstract_paint.specs.declared.start.Start.{Start}
 use Rattle.base_pages.specs.declared.index.FaultIndex.{FaultIndex}

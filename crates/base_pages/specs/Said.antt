@@ -10,7 +10,7 @@ use Rattle.frame_records.specs.declared.frame.Lead.TheVariants.{Clear, Keep}
 use Rattle.frame_records.specs.declared.ways.Destination.{Destination}
 use Rattle.frame_records.specs.declared.ways.Destination.TheVariants.{NotOffered, Found, Closed, Missing, Outside}
 use Rattle.frame_records.specs.Ways.{destination_of}
-use Rattle.fault_scripts.specs.declared.fault.Fault.{Fault}
+use Rattle.base_faults.specs.declared.fault.Fault.{Fault}
 use Rattle.audit_report.specs.ReportLines.{words_as}
 use Rattle.finder.specs.Parts.{part_shows}
 use Rattle.screens.specs.declared.look.Look.{Look}

@@ -8,7 +8,7 @@ use Rattle.frame_records.specs.declared.frame.Lead.{Lead}
 use Rattle.frame_records.specs.declared.frame.Lead.TheVariants.{Clear, Keep}
 use Rattle.frame_records.specs.Bases.{BaseView}
 use Rattle.finder.specs.declared.found.Discovered.{Discovered}
-use Rattle.fault_scripts.specs.declared.fault.Fault.{Fault}
+use Rattle.base_faults.specs.declared.fault.Fault.{Fault}
 use Rattle.finder.specs.Parts.{part_shows}
 use Rattle.lint.specs.declared.lines.WrittenFrame.{WrittenFrame}
 use Rattle.lint.specs.FrameLines.{SentenceView}

@@ -3,8 +3,6 @@
 ghost use Rattle.std.specs.Prelude.{◌≡◌, ◌++◌, ◌∷◌, [], OnOk, IfOk, codes};
 ghost use Rattle.page_ids.specs.Ids.{frame_text};
 ghost use Rattle.page_ids.specs.Keys.{key_word};
-ghost use Rattle.page_ids.specs.Ways.{way_at, way_key};
-ghost use Rattle.frame_records.specs.Ways.{destination_of};
 ghost use Rattle.screens.specs.Svg.{markup};
 ghost use Rattle.base_pages.specs.Elements.{element_pieces};
 ghost use Rattle.base_pages.specs.Ways as spec;
@@ -147,23 +145,6 @@ fn push_way(
     }
 }
 
-// The way at a place of their order.
-fn push_way_at(
-    alloc: Global,
-    out: &mut Vec<u8>,
-    base: &Base,
-    groups: &Groups,
-    part: &Part,
-    frame: &Frame,
-    place: u8,
-) -> Result<(), AllocError>
-    ensures { OnOk result (out.new.items ≡ out.old.items ++ markup (spec.way_pieces part.now (way_key (way_at place))
-        (destination_of groups.now base.now frame.now (way_at place)))) }
-{
-    let leads = base.follow(frame, Way::at(place), groups);
-    push_way(alloc, out, part, Way::at(place).key(), &leads)
-}
-
 // Each way that a frame offers, in their order.
 #[tactic(auto, using(crate::proofs::Bytes::nothing))]
 fn push_each(
@@ -178,7 +159,8 @@ fn push_each(
         ++ markup (spec.each_way groups.now base.now part.now frame.now)) }
 {
     for place in 0..Way::COUNT {
-        push_way_at(alloc, out, base, groups, part, frame, place)?;
+        let leads = base.follow(frame, Way::at(place), groups);
+        push_way(alloc, out, part, Way::at(place).key(), &leads)?;
     }
     Ok(())
 }

@@ -15,18 +15,18 @@ pub struct Answer {
     pub text: Vec<u8>,
 }
 
-// Copies a text to the front of a buffer, as far as it fits; returns the text's whole length.
-pub fn lay_over(text: &[u8], buffer: &mut [u8]) -> usize
-    ensures laid { buffer.new ≡ laid_over text.now buffer.old }
-    ensures whole { result ≡ length text.now }
+// Copies items, as a text's bytes, to the front of a buffer, as far as they fit; returns how many there are.
+pub fn lay_over<T: Copy>(items: &[T], buffer: &mut [T]) -> usize
+    ensures laid { buffer.new ≡ laid_over items.now buffer.old }
+    ensures whole { result ≡ length items.now }
 {
-    let count = text.len().min(buffer.len());
-    buffer[..count].copy_from_slice(&text[..count]);
-    text.len()
+    let count = items.len().min(buffer.len());
+    buffer[..count].copy_from_slice(&items[..count]);
+    items.len()
 }
 
 // An answer without a text.
-fn without_text(alloc: Global, status: CallStatus) -> Answer
+pub fn without_text(alloc: Global, status: CallStatus) -> Answer
     ensures status { result.status ≡ status }
     ensures text { result.text.items ≡ [] }
 {

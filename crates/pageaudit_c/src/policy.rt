@@ -18,21 +18,9 @@ pub fn groups_of(text: &[u8]) -> Result<Groups, GroupFault>
 pub fn policy_of(ceiling: u32, keyings: u32, groups: &[u8]) -> Option<Policy>
     ensures { IsPolicyRead (asked ceiling keyings groups.now) result }
 {
-    let Ok(ceiling) = u16::try_from(ceiling) else {
-        return None;
-    };
-    let Ok(keyings) = u16::try_from(keyings) else {
-        return None;
-    };
-    let Some(ceiling) = Pence::new(ceiling) else {
-        return None;
-    };
-    match groups_of(groups) {
-        Ok(groups) => Some(Policy {
-            ceiling,
-            keyings,
-            groups,
-        }),
-        Err(_) => None,
-    }
+    Some(Policy {
+        ceiling: Pence::new(u16::try_from(ceiling).ok()?)?,
+        keyings: u16::try_from(keyings).ok()?,
+        groups: groups_of(groups).ok()?,
+    })
 }

@@ -1,11 +1,11 @@
 ghost use Rattle.std.specs.Prelude.{◌≡◌, ◌⊎◌, ◌++◌, [], IfOk, OnOk, map};
 ghost use Rattle.std.specs.List.{flat_map};
 ghost use Rattle.frame_records.specs.Bases.{frame_at};
-ghost use Rattle.pageaudit_c.specs.Calls.{groups_of, laid_over, buffer};
+ghost use Rattle.pageaudit_c.specs.Calls.{groups_of, buffer};
 ghost use Rattle.pageaudit_c.specs.declared.status.CallStatus.TheVariants.{Faulty, OutOfMemory};
 ghost use Rattle.pageaudit_c.specs.Shows as spec;
 
-use crate::answer::{Answer, bad_policy, fault_answer, lay_over, out_of_memory};
+use crate::answer::{Answer, bad_policy, fault_answer, lay_over, out_of_memory, without_text};
 use crate::policy::groups_of;
 use crate::status::CallStatus;
 use checker::base_of;
@@ -153,12 +153,7 @@ fn without_screen(alloc: Global, answer: Answer) -> ShownScreen
 fn no_frame(alloc: Global) -> ShownScreen
     ensures { spec.IsNoScreen Faulty result }
 {
-    ShownScreen {
-        status: CallStatus::Faulty,
-        text: Vec::new(alloc),
-        codes: Vec::new(alloc),
-        looks: Vec::new(alloc),
-    }
+    without_screen(alloc, without_text(alloc, CallStatus::Faulty))
 }
 
 // The frame that a word names, by its id, or by a page for its frame `a`; the entry frame without one.
@@ -226,14 +221,6 @@ fn show_answer(alloc: Global, text: &[u8], word: &[u8], groups: &[u8]) -> ShownS
     }
 }
 
-// Copies looks to the front of an array, as far as they fit.
-fn lay_looks(looks: &[CellLook], array: &mut [CellLook])
-    ensures { array.new ≡ laid_over looks.now array.old }
-{
-    let count = looks.len().min(array.len());
-    array[..count].copy_from_slice(&looks[..count]);
-}
-
 /// Shows the screen of a frame, as a caller of the groups sees it: its 960 codes, and how each cell looks.
 ///
 /// `frame` is an id, as `478a`, or a page for its frame `a`, as `478`; if it is empty, the entry frame is shown. It is shown over
@@ -258,7 +245,7 @@ pub extern "C" fn pageaudit_show(
 {
     let answer = show_answer(alloc, base, frame, groups);
     lay_over(answer.codes.as_slice(), codes);
-    lay_looks(answer.looks.as_slice(), looks);
+    lay_over(answer.looks.as_slice(), looks);
     *full_length = lay_over(answer.text.as_slice(), line);
     answer.status.number()
 }

@@ -15,6 +15,7 @@ use Rattle.screen_files.specs.declared.capture.Shot.{Shot}
 use Rattle.screen_files.specs.Captures.{is_blank_screen, clears_screen, shot_at, shot_if_shown, shown_first, shown_since, unwound, offset_in, reel_after, cleared_by, cleared, wound, start_offset, shown_end, shown_screens, end_if_none, capture_screens}
 use Rattle.screen_forms.specs.Bits.{stored_code}
 use Rattle.screen_forms.specs.Laws.{IsSavedScreen}
+use Rattle.screen_forms.proofs.PagesAre.{stored_is_code}
 use Rattle.screen_files.specs.Codes.{row_code, blank_codes, codes_of_rows, has_all_rows, is_ep1, is_space_byte, between_blank, placed, rows_in, seven_bits}
 use Rattle.screen_files.specs.Heads.{screen_head}
 use Rattle.screen_files.specs.Laws.{FilesAreScreens}
@@ -23,16 +24,6 @@ abbrev IsByte : ℕ → Type 0
 IsByte b = b < 256
 
 -- Saved screens.
-
-stored_is_code : (b : ℕ) → IsByte b → IsCode (stored_code b)
-stored_is_code b lt = low (nat_lt b 32) refl where
-  high : nat_lt b 32 ≡ false → (c : Bool) → nat_lt b 160 ≡ c → IsCode (stored_code b)
-  high not_low true e = rw (not_low, e) (grind (arith, nat_tests), grind (arith, nat_tests))
-  high not_low false e = rw (not_low, e) (grind (arith, nat_tests, lt), grind (arith, nat_tests, lt))
-
-  low : (c : Bool) → nat_lt b 32 ≡ c → IsCode (stored_code b)
-  low true e = rw e (grind (arith, nat_tests), grind (arith, nat_tests))
-  low false e = high e (nat_lt b 160) refl
 
 row_is_code : (s : Bool) (b : ℕ) → IsByte b → IsCode (row_code s b)
 row_is_code s b lt = by (not s && b == 0) refl where

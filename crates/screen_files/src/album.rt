@@ -2,7 +2,7 @@
 
 ghost use Rattle.std.specs.Prelude.{◌≡◌, ◌++◌, ◌+◌, ◌≤◌, [], None, OnOk, IfOk, IfErr, length, nat_lt};
 ghost use Rattle.frame_records.specs.declared.limits.TheConstants.{MOST_LISTED};
-ghost use Rattle.screen_files.specs.Settling.{Ascend, IsSettled};
+ghost use Rattle.screen_files.specs.Settling.{IsSettled};
 ghost use Rattle.screen_files.specs.Album as spec;
 
 use crate::filed::Filed;
@@ -73,10 +73,9 @@ impl Album {
         if self.is_over(frames.len()) {
             return Err(AddFault::TooMany);
         }
-        match self.frames.extend_from_slice(frames) {
-            Ok(()) => Ok(()),
-            Err(_) => Err(AddFault::Memory),
-        }
+        self.frames
+            .extend_from_slice(frames)
+            .map_err(|_| AddFault::Memory)
     }
 
     /// The frames, in the order in which they were added.
@@ -145,29 +144,6 @@ pub fn push_frames(out: &mut Vec<u8>, known: &Known, frames: &[Filed]) -> Result
     Ok(())
 }
 
-// The text of the base of some frames.
-fn frames_text(
-    alloc: Global,
-    asked: Option<PageNo>,
-    guesses: bool,
-    frames: &[Filed],
-) -> Result<Vec<u8>, BaseTextFault>
-    requires { Ascend frames.now }
-    ensures text { IfOk result (λ text. spec.IsBaseText asked guesses frames.now text.items) }
-    ensures fault { IfErr result (spec.IsNoBaseText asked guesses frames.now) }
-{
-    let Ok(known) = Known::of(alloc, guesses, frames) else {
-        return Err(BaseTextFault::Memory);
-    };
-    let mut out = Vec::new(alloc);
-    let Some(first) = frames.first() else {
-        return Ok(out);
-    };
-    push_entry(&mut out, asked.unwrap_or(first.frame.id.page)).map_err(|_| BaseTextFault::Memory)?;
-    push_frames(&mut out, &known, frames)?;
-    Ok(out)
-}
-
 /// The text of the base of some frames: no frames make no text. The entry page is the one that is asked for, else that of the first
 /// frame. A frame has `next` if the one after it has the following letter. If routes are guessed, it has those to frames of the base that
 /// the numbers of their pages suggest.
@@ -180,5 +156,15 @@ pub fn base_text(
     ensures text { IfOk result (λ text. spec.IsBaseText asked guesses settled.now.frames text.items) }
     ensures fault { IfErr result (spec.IsNoBaseText asked guesses settled.now.frames) }
 {
-    frames_text(alloc, asked, guesses, settled.frames())
+    let frames = settled.frames();
+    let Ok(known) = Known::of(alloc, guesses, frames) else {
+        return Err(BaseTextFault::Memory);
+    };
+    let mut out = Vec::new(alloc);
+    let Some(first) = frames.first() else {
+        return Ok(out);
+    };
+    push_entry(&mut out, asked.unwrap_or(first.frame.id.page)).map_err(|_| BaseTextFault::Memory)?;
+    push_frames(&mut out, &known, frames)?;
+    Ok(out)
 }

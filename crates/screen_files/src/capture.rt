@@ -142,10 +142,7 @@ fn push_all(reel: &mut Reel, shots: &mut Vec<Shot>, bytes: &[u8]) -> Result<(), 
 {
     let mut left = bytes;
     while let Some((byte, rest)) = left.split_first() {
-        match reel.push_cleared(shots, *byte) {
-            Ok(()) => {}
-            Err(fault) => return Err(fault),
-        }
+        reel.push_cleared(shots, *byte)?;
         reel.step(bytes.len().saturating_sub(left.len()), *byte);
         left = rest;
     }

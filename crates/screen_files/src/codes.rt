@@ -93,21 +93,16 @@ fn row_code(has_space: bool, byte: u8) -> u8
     }
 }
 
-fn decode(has_space: bool, codes: &mut [u8])
-    ensures { codes.new ≡ map (spec.row_code has_space) codes.old }
-{
-    for at in 0..codes.len() {
-        codes[at] = row_code(has_space, codes[at]);
-    }
-}
-
 // The codes of the bytes of rows.
 fn codes_of_rows(rows: &[u8]) -> [u8; 960]
     requires { loops.has_row_size rows.now ≡ true }
     ensures { result ≡ spec.codes_of_rows rows.now }
 {
     let mut cells = placed(rows);
-    decode(has_space(rows), &mut cells);
+    let spaces = has_space(rows);
+    for cell in cells.iter_mut() {
+        *cell = row_code(spaces, *cell);
+    }
     cells
 }
 

@@ -2,6 +2,7 @@
 
 ghost use Rattle.std.specs.Prelude.{◌≡◌, ◌++◌, IfOk, OnOk, map};
 ghost use Rattle.std.specs.List.{list_any};
+ghost use Rattle.screen_files.specs.declared.file.FramesFault.TheVariants as fault;
 ghost use Rattle.screen_files.specs.Files as spec;
 ghost use Rattle.screen_files.specs.Loops as loops;
 
@@ -53,6 +54,14 @@ pub enum FramesFault {
     Screen(ScreenFault),
     /// A growth was refused.
     Memory,
+}
+
+impl From<AllocError> for FramesFault {
+    ghost from_gives = { λ _ e. e ≡ fault.Memory };
+
+    fn from(_e: AllocError) -> FramesFault {
+        FramesFault::Memory
+    }
 }
 
 /// The frames that a file gives.
@@ -110,21 +119,21 @@ fn saved_frame(path: &str, bytes: &[u8]) -> Result<ScreenFrame, ScreenFault>
 // What was found, if a frame was.
 fn found_one(
     alloc: Global,
-    origin: Origin,
+    file: usize,
+    place: ScreenPlace,
     unnamed: Vec<usize>,
     frame: &Result<ScreenFrame, ScreenFault>,
 ) -> Result<FoundScreens, FramesFault>
-    ensures { loops.IsFound (spec.found_one origin.file origin.place unnamed.items frame.now) result }
+    ensures { loops.IsFound (spec.found_one file place unnamed.items frame.now) result }
 {
     let frame = match frame {
         Ok(frame) => *frame,
         Err(fault) => return Err(FramesFault::Screen(*fault)),
     };
     let mut filed = Vec::new(alloc);
-    match filed.extend_from_slice(&[Filed { origin, frame }]) {
-        Ok(()) => Ok(FoundScreens { filed, unnamed }),
-        Err(_) => Err(FramesFault::Memory),
-    }
+    let origin = Origin { file, place };
+    filed.extend_from_slice(&[Filed { origin, frame }])?;
+    Ok(FoundScreens { filed, unnamed })
 }
 
 fn shows_id(shot: &Shot) -> bool
@@ -146,10 +155,8 @@ fn push_filed_shot(filed: &mut Vec<Filed>, file: usize, shot: &Shot) -> Result<(
         price: head.price,
         codes: shot.codes,
     };
-    let origin = Origin {
-        file,
-        place: ScreenPlace::Byte(shot.byte),
-    };
+    let place = ScreenPlace::Byte(shot.byte);
+    let origin = Origin { file, place };
     filed.extend_from_slice(&[Filed { origin, frame }])
 }
 
@@ -184,11 +191,7 @@ fn found_shots(alloc: Global, file: usize, shots: &[Shot]) -> Result<FoundScreen
 fn offsets(alloc: Global, shots: &[Shot]) -> Result<Vec<usize>, AllocError>
     ensures { IfOk result (λ offsets. offsets.items ≡ map (λ s. s.byte) shots.now) }
 {
-    let mut offsets = Vec::new(alloc);
-    for shot in shots {
-        offsets.push(shot.byte)?;
-    }
-    Ok(offsets)
+    shots.iter().map(|shot| shot.byte).collect(alloc)
 }
 
 // The frame of the last screen alone.
@@ -203,14 +206,9 @@ fn found_last(
     let Some((last, before)) = shots.split_last() else {
         return Err(FramesFault::Screen(ScreenFault::NoId));
     };
-    let origin = Origin {
-        file,
-        place: ScreenPlace::Byte(last.byte),
-    };
-    match offsets(alloc, before) {
-        Ok(unnamed) => found_one(alloc, origin, unnamed, &named_frame(path, &last.codes)),
-        Err(_) => Err(FramesFault::Memory),
-    }
+    let place = ScreenPlace::Byte(last.byte);
+    let unnamed = offsets(alloc, before)?;
+    found_one(alloc, file, place, unnamed, &named_frame(path, &last.codes))
 }
 
 fn show_ids(shots: &[Shot]) -> bool
@@ -237,7 +235,7 @@ fn found_screens(
     if is_by_name(shots) {
         return found_last(alloc, path, file, shots);
     }
-    found_shots(alloc, file, shots).map_err(|_| FramesFault::Memory)
+    Ok(found_shots(alloc, file, shots)?)
 }
 
 // The frames of a capture.
@@ -266,26 +264,7 @@ fn is_link_text(bytes: &[u8]) -> bool
     has_address(bytes) && !begins_ep1(bytes)
 }
 
-// The frames of a screen of the right size, else of addresses.
-fn found_sized(
-    alloc: Global,
-    path: &str,
-    file: usize,
-    bytes: &[u8],
-) -> Result<FoundScreens, FramesFault>
-    ensures { loops.IsFound (spec.found_sized path.now file bytes.now) result }
-{
-    if saved_codes(bytes).is_none() && is_link_text(bytes) {
-        return found_links(alloc, path, file, bytes);
-    }
-    let origin = Origin {
-        file,
-        place: ScreenPlace::Whole,
-    };
-    found_one(alloc, origin, Vec::new(alloc), &saved_frame(path, bytes))
-}
-
-// The frames of TTI, else those of the other forms.
+// The frames of TTI, else of a screen of the right size, else of addresses.
 fn found_saved(
     alloc: Global,
     path: &str,
@@ -297,7 +276,17 @@ fn found_saved(
     if is_sheet(bytes) {
         return found_pages(alloc, path, file, bytes);
     }
-    found_sized(alloc, path, file, bytes)
+    if saved_codes(bytes).is_none() && is_link_text(bytes) {
+        return found_links(alloc, path, file, bytes);
+    }
+    let unnamed = Vec::new(alloc);
+    found_one(
+        alloc,
+        file,
+        ScreenPlace::Whole,
+        unnamed,
+        &saved_frame(path, bytes),
+    )
 }
 
 fn found_in(
@@ -334,15 +323,8 @@ pub fn file_frames(
 ) -> Result<FileFrames, FramesFault>
     ensures { spec.AreFileFrames (spec.found_in kind path.now file bytes.now) result }
 {
-    let found = match found_in(alloc, kind, path, file, bytes) {
-        Ok(found) => found,
-        Err(fault) => return Err(fault),
-    };
-    match settle(alloc, found.filed) {
-        Ok(frames) => Ok(FileFrames {
-            frames,
-            unnamed: found.unnamed,
-        }),
-        Err(_) => Err(FramesFault::Memory),
-    }
+    let found = found_in(alloc, kind, path, file, bytes)?;
+    let frames = settle(alloc, found.filed)?;
+    let unnamed = found.unnamed;
+    Ok(FileFrames { frames, unnamed })
 }

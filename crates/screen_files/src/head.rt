@@ -113,20 +113,14 @@ fn spaced(code: u8) -> u8
     if code < 0x80 { code } else { b' ' }
 }
 
-fn space(codes: &mut [u8])
-    ensures { codes.new ≡ map spec.spaced codes.old }
-{
-    for at in 0..codes.len() {
-        codes[at] = spaced(codes[at]);
-    }
-}
-
 // Row 0, with spaces for its attributes.
 fn top_text(codes: &[u8; 960]) -> [u8; 40]
     ensures { result ≡ map spec.spaced (take 40 codes.now) }
 {
     let mut row = row_copy(codes, 0);
-    space(&mut row);
+    for code in row.iter_mut() {
+        *code = spaced(*code);
+    }
     row
 }
 
@@ -186,8 +180,5 @@ pub fn name_id(path: &str) -> Option<FrameId>
     ensures { result ≡ spec.name_id path.now }
 {
     let stem = name_stem(path.as_bytes());
-    match any_case_id(stem) {
-        Some(id) => Some(id),
-        None => end_id(stem),
-    }
+    any_case_id(stem).or(end_id(stem))
 }

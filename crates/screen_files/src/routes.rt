@@ -34,10 +34,8 @@ impl Known {
         ensures { OnOk result ((other : Id) → spec.knows_frame self.new other
             ≡ (id_eq id other || spec.knows_frame self.old other)) }
     {
-        match self.ids.insert(id) {
-            Ok(_) => Ok(()),
-            Err(_) => Err(AllocError),
-        }
+        self.ids.insert(id)?;
+        Ok(())
     }
 
     /// Adds the frames of a list.

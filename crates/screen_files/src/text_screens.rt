@@ -40,10 +40,8 @@ fn push_text_screen(
         price: screen_head(&screen.codes).price,
         codes: screen.codes,
     };
-    let origin = Origin {
-        file,
-        place: ScreenPlace::Line(screen.line),
-    };
+    let place = ScreenPlace::Line(screen.line);
+    let origin = Origin { file, place };
     filed.extend_from_slice(&[Filed { origin, frame }])
 }
 
@@ -102,13 +100,9 @@ fn found_text_screens(
     if let Some(line) = nameless_line(&name, screens) {
         return Err(FramesFault::Screen(ScreenFault::NoIdAt(line)));
     }
-    match filed_texts(alloc, file, &name, screens) {
-        Ok(filed) => Ok(FoundScreens {
-            filed,
-            unnamed: Vec::new(alloc),
-        }),
-        Err(_) => Err(FramesFault::Memory),
-    }
+    let filed = filed_texts(alloc, file, &name, screens)?;
+    let unnamed = Vec::new(alloc);
+    Ok(FoundScreens { filed, unnamed })
 }
 
 // The frames of a text with addresses.

@@ -93,21 +93,15 @@ fn push_comment(out: &mut Vec<u8>, text: &[u8]) -> Result<(), AllocError>
     out.extend_from_slice(b"\n")
 }
 
-fn make_comment(codes: &mut [u8])
-    ensures { codes.new ≡ map spec.comment_code codes.old }
-{
-    for at in 0..codes.len() {
-        codes[at] = comment_code(codes[at]);
-    }
-}
-
 // The text of a comment of a row.
 fn comment_text(codes: &[u8; 960], row: usize) -> [u8; 40]
     requires { row < 24 }
     ensures { result ≡ map spec.comment_code (take 40 (drop (40 * row) codes.now)) }
 {
     let mut text = row_copy(codes, row);
-    make_comment(&mut text);
+    for code in text.iter_mut() {
+        *code = comment_code(*code);
+    }
     text
 }
 

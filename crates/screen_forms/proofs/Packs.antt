@@ -1,7 +1,7 @@
 -- Eight codes are seven bytes, and back.
 use Rattle.std.proofs.Common.{◌≡◌, ◌<◌, ◌≤◌, ◌+◌, ◌*◌, ◌/◌, ◌%◌, ℕ, zero, suc, List, [], ◌∷◌, ◌++◌, refl, sym, subst, drop, length, map, take, arith}
 use Rattle.std.proofs.lemmas.List.{nil_from_length}
-use Rattle.std.proofs.lemmas.List.Elements.{All-cons, All-nil}
+use Rattle.std.proofs.lemmas.List.Elements.{All-append, All-from_recursion, All-nil}
 use Rattle.std.specs.List.{All}
 use Rattle.screen_forms.specs.Loops.{bytes_of_eight, cells_of_seven}
 use Rattle.screen_forms.specs.Bits.{group_bytes, group_cells, low_bits, packed, unpacked}
@@ -97,26 +97,8 @@ IsByte b = b < 256
 
 group_all : (a b c d e f g h : ℕ) (rest : List ℕ) → All IsByte rest → All IsByte (group_bytes (a ∷ b ∷ c ∷ d ∷ e ∷ f ∷ g ∷ h ∷ []) ++ rest)
 group_all a b c d e f g h rest all =
-    let b0 : IsByte (a % 128 * 2 + b % 128 / 64) = omega arith in
-    let b1 : IsByte (b % 64 * 4 + c % 128 / 32) = omega arith in
-    let b2 : IsByte (c % 32 * 8 + d % 128 / 16) = omega arith in
-    let b3 : IsByte (d % 16 * 16 + e % 128 / 8) = omega arith in
-    let b4 : IsByte (e % 8 * 32 + f % 128 / 4) = omega arith in
-    let b5 : IsByte (f % 4 * 64 + g % 128 / 2) = omega arith in
-    let b6 : IsByte (g % 2 * 128 + h % 128) = omega arith in
-    let l6 : List ℕ = (g % 2 * 128 + h % 128) ∷ rest in
-    let l5 : List ℕ = (f % 4 * 64 + g % 128 / 2) ∷ l6 in
-    let l4 : List ℕ = (e % 8 * 32 + f % 128 / 4) ∷ l5 in
-    let l3 : List ℕ = (d % 16 * 16 + e % 128 / 8) ∷ l4 in
-    let l2 : List ℕ = (c % 32 * 8 + d % 128 / 16) ∷ l3 in
-    let l1 : List ℕ = (b % 64 * 4 + c % 128 / 32) ∷ l2 in
-    let a6 : All IsByte l6 = All-cons IsByte (g % 2 * 128 + h % 128) rest b6 all in
-    let a5 : All IsByte l5 = All-cons IsByte (f % 4 * 64 + g % 128 / 2) l6 b5 a6 in
-    let a4 : All IsByte l4 = All-cons IsByte (e % 8 * 32 + f % 128 / 4) l5 b4 a5 in
-    let a3 : All IsByte l3 = All-cons IsByte (d % 16 * 16 + e % 128 / 8) l4 b3 a4 in
-    let a2 : All IsByte l2 = All-cons IsByte (c % 32 * 8 + d % 128 / 16) l3 b2 a3 in
-    let a1 : All IsByte l1 = All-cons IsByte (b % 64 * 4 + c % 128 / 32) l2 b1 a2 in
-    All-cons IsByte (a % 128 * 2 + b % 128 / 64) l1 b0 a1
+    let bytes = group_bytes (a ∷ b ∷ c ∷ d ∷ e ∷ f ∷ g ∷ h ∷ []) in
+    All-append IsByte bytes rest (All-from_recursion IsByte bytes (omega arith, (omega arith, (omega arith, (omega arith, (omega arith, (omega arith, (omega arith, tt)))))))) all
 
 group_are_bytes : (n a b c d e f g h : ℕ) (rest : List ℕ) → ArePacked n rest → All IsByte (packed (a ∷ b ∷ c ∷ d ∷ e ∷ f ∷ g ∷ h ∷ rest))
 unfolding packed
@@ -157,29 +139,8 @@ IsCell c = c < 128
 
 cells_before : (p q r s t u v : ℕ) (more : List ℕ) → All IsCell more → All IsCell (group_cells (p ∷ q ∷ r ∷ s ∷ t ∷ u ∷ v ∷ []) ++ more)
 cells_before p q r s t u v more all =
-    let b0 : IsCell (p % 256 / 2) = omega arith in
-    let b1 : IsCell (p % 2 * 64 + q % 256 / 4) = omega arith in
-    let b2 : IsCell (q % 4 * 32 + r % 256 / 8) = omega arith in
-    let b3 : IsCell (r % 8 * 16 + s % 256 / 16) = omega arith in
-    let b4 : IsCell (s % 16 * 8 + t % 256 / 32) = omega arith in
-    let b5 : IsCell (t % 32 * 4 + u % 256 / 64) = omega arith in
-    let b6 : IsCell (u % 64 * 2 + v % 256 / 128) = omega arith in
-    let b7 : IsCell (v % 128) = omega arith in
-    let l7 : List ℕ = (v % 128) ∷ more in
-    let l6 : List ℕ = (u % 64 * 2 + v % 256 / 128) ∷ l7 in
-    let l5 : List ℕ = (t % 32 * 4 + u % 256 / 64) ∷ l6 in
-    let l4 : List ℕ = (s % 16 * 8 + t % 256 / 32) ∷ l5 in
-    let l3 : List ℕ = (r % 8 * 16 + s % 256 / 16) ∷ l4 in
-    let l2 : List ℕ = (q % 4 * 32 + r % 256 / 8) ∷ l3 in
-    let l1 : List ℕ = (p % 2 * 64 + q % 256 / 4) ∷ l2 in
-    let a7 : All IsCell l7 = All-cons IsCell (v % 128) more b7 all in
-    let a6 : All IsCell l6 = All-cons IsCell (u % 64 * 2 + v % 256 / 128) l7 b6 a7 in
-    let a5 : All IsCell l5 = All-cons IsCell (t % 32 * 4 + u % 256 / 64) l6 b5 a6 in
-    let a4 : All IsCell l4 = All-cons IsCell (s % 16 * 8 + t % 256 / 32) l5 b4 a5 in
-    let a3 : All IsCell l3 = All-cons IsCell (r % 8 * 16 + s % 256 / 16) l4 b3 a4 in
-    let a2 : All IsCell l2 = All-cons IsCell (q % 4 * 32 + r % 256 / 8) l3 b2 a3 in
-    let a1 : All IsCell l1 = All-cons IsCell (p % 2 * 64 + q % 256 / 4) l2 b1 a2 in
-    All-cons IsCell (p % 256 / 2) l1 b0 a1
+    let cells = group_cells (p ∷ q ∷ r ∷ s ∷ t ∷ u ∷ v ∷ []) in
+    All-append IsCell cells more (All-from_recursion IsCell cells (omega arith, (omega arith, (omega arith, (omega arith, (omega arith, (omega arith, (omega arith, (omega arith, tt))))))))) all
 
 pub cells_are_small : (bytes : List ℕ) → All (λ c. c < 128) (unpacked bytes)
 unfolding unpacked

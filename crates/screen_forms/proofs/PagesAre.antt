@@ -30,7 +30,7 @@ byte_at (b ∷ bs) are (suc i) = byte_at bs (All-tail IsByte b bs are) i
 
 -- Cells.
 
-stored_is_code : (b : ℕ) → IsByte b → IsCode (stored_code b)
+pub stored_is_code : (b : ℕ) → IsByte b → IsCode (stored_code b)
 stored_is_code b lt = low (nat_lt b 32) refl where
   high : nat_lt b 32 ≡ false → (c : Bool) → nat_lt b 160 ≡ c → IsCode (stored_code b)
   high not_low true e = rw (not_low, e) (grind (arith, nat_tests), grind (arith, nat_tests))

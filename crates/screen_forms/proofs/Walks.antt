@@ -1,7 +1,7 @@
 -- Steps of walks over a text.
-use Rattle.std.proofs.Common.{◌≡◌, ◌∙◌, ◌<◌, ◌≤◌, ◌+◌, ◌-◌, ℕ, zero, suc, Some, None, Result, Ok, Err, true, false, List, [], ◌∷◌, refl, sym, ap, subst, drop, get_or, length, arith}
+use Rattle.std.proofs.Common.{◌≡◌, ◌∙◌, ◌<◌, ◌≤◌, ◌+◌, ◌-◌, ℕ, Bool, zero, suc, Some, None, Result, Ok, Err, true, false, List, [], ◌∷◌, refl, sym, ap, subst, drop, get_or, length, arith}
 use Rattle.std.proofs.lemmas.List.{append-nil, drop_more, drop_all}
-use Rattle.screen_forms.specs.Words.{is_between_words, word_end, word_start}
+use Rattle.screen_forms.specs.Words.{belongs, run_start}
 use Rattle.screen_forms.specs.declared.text_screens.TextScreen.{TextScreen}
 use Rattle.screen_forms.specs.declared.text_screens.FaultyLine.{FaultyLine}
 use Rattle.screen_forms.specs.declared.text_screens.TextScreensFault.{TextScreensFault}
@@ -11,47 +11,27 @@ use Rattle.screen_forms.specs.Links.{is_link_letter}
 use Rattle.screen_forms.specs.TextScreens.{AreTextScreens}
 use Rattle.screen_forms.specs.Addresses.{field_id, is_mark, is_number_field, letters_from, line_screen, lines_screens, mark_from, number_among, then_screens}
 
-pub start_none : (text : List ℕ) → word_start text 0 ≡ 0
-unfolding word_start
-start_none text = refl
+module _ (gap : Bool) (text : List ℕ) where
+  pub start_none : run_start gap text 0 ≡ 0
+  unfolding run_start
+  start_none = refl
 
-pub start_step : (text : List ℕ) (n : ℕ) → 0 < n → is_between_words text (n - 1) ≡ false → word_start text (n - 1) ≡ word_start text n
-unfolding word_start
-start_step text zero some word = absurd (omega (arith, some))
-start_step text (suc n) some word =
-    let less : suc n - 1 ≡ n = omega arith in
-    let not_gap : is_between_words text n ≡ false = ap (λ (m : ℕ). is_between_words text m) (sym less) ∙ word in
-    let here : word_start text n ≡ word_start text (suc n) = rw not_gap refl in
-    ap (λ (m : ℕ). word_start text m) less ∙ here
+  pub start_step : (n : ℕ) → 0 < n → belongs gap text (n - 1) ≡ true → run_start gap text (n - 1) ≡ run_start gap text n
+  unfolding run_start
+  start_step zero some goes = absurd (omega (arith, some))
+  start_step (suc n) some goes =
+      let less : suc n - 1 ≡ n = omega arith in
+      let is : belongs gap text n ≡ true = ap (λ (m : ℕ). belongs gap text m) (sym less) ∙ goes in
+      let here : run_start gap text n ≡ run_start gap text (suc n) = rw is refl in
+      ap (λ (m : ℕ). run_start gap text m) less ∙ here
 
-pub start_stop : (text : List ℕ) (n : ℕ) → 0 < n → is_between_words text (n - 1) ≡ true → word_start text n ≡ n
-unfolding word_start
-start_stop text zero some gap = absurd (omega (arith, some))
-start_stop text (suc n) some gap =
-    let less : suc n - 1 ≡ n = omega arith in
-    let is : is_between_words text n ≡ true = ap (λ (m : ℕ). is_between_words text m) (sym less) ∙ gap in
-    rw is refl
-
-pub end_none : (text : List ℕ) → word_end text 0 ≡ 0
-unfolding word_end
-end_none text = refl
-
-pub end_step : (text : List ℕ) (n : ℕ) → 0 < n → is_between_words text (n - 1) ≡ true → word_end text (n - 1) ≡ word_end text n
-unfolding word_end
-end_step text zero some gap = absurd (omega (arith, some))
-end_step text (suc n) some gap =
-    let less : suc n - 1 ≡ n = omega arith in
-    let is : is_between_words text n ≡ true = ap (λ (m : ℕ). is_between_words text m) (sym less) ∙ gap in
-    let here : word_end text n ≡ word_end text (suc n) = rw is refl in
-    ap (λ (m : ℕ). word_end text m) less ∙ here
-
-pub end_stop : (text : List ℕ) (n : ℕ) → 0 < n → is_between_words text (n - 1) ≡ false → word_end text n ≡ n
-unfolding word_end
-end_stop text zero some word = absurd (omega (arith, some))
-end_stop text (suc n) some word =
-    let less : suc n - 1 ≡ n = omega arith in
-    let not_gap : is_between_words text n ≡ false = ap (λ (m : ℕ). is_between_words text m) (sym less) ∙ word in
-    rw not_gap refl
+  pub start_stop : (n : ℕ) → 0 < n → belongs gap text (n - 1) ≡ false → run_start gap text n ≡ n
+  unfolding run_start
+  start_stop zero some stops = absurd (omega (arith, some))
+  start_stop (suc n) some stops =
+      let less : suc n - 1 ≡ n = omega arith in
+      let is : belongs gap text n ≡ false = ap (λ (m : ℕ). belongs gap text m) (sym less) ∙ stops in
+      rw is refl
 
 mark_hit : (at c : ℕ) (cs : List ℕ) → is_mark (c ∷ cs) ≡ true → mark_from at (c ∷ cs) ≡ Some at
 unfolding mark_from
@@ -93,20 +73,14 @@ pub letters_none : (at : ℕ) (text : List ℕ) → length text ≤ at → lette
 unfolding letters_from
 letters_none at text past = rw (drop_all at text past) refl
 
-among_hit : (f : List ℕ) (fs : List (List ℕ)) → is_number_field f ≡ true → number_among (f ∷ fs) ≡ field_id f
-unfolding number_among
-among_hit f fs is = rw is refl
-
-among_miss : (f : List ℕ) (fs : List (List ℕ)) → is_number_field f ≡ false → number_among (f ∷ fs) ≡ number_among fs
-unfolding number_among
-among_miss f fs is = rw is refl
-
 -- fields, the first of which is known
 pub field_here : (all : List (List ℕ)) (f : List ℕ) (fs : List (List ℕ)) → all ≡ f ∷ fs → is_number_field f ≡ true → number_among all ≡ field_id f
-field_here all f fs e is = rw e (among_hit f fs is)
+unfolding number_among
+field_here all f fs e is = rw (e, is) refl
 
 pub field_later : (all : List (List ℕ)) (f : List ℕ) (fs : List (List ℕ)) → all ≡ f ∷ fs → is_number_field f ≡ false → number_among all ≡ number_among fs
-field_later all f fs e is = rw e (among_miss f fs is)
+unfolding number_among
+field_later all f fs e is = rw (e, is) refl
 
 pub field_none : (all : List (List ℕ)) (f : List ℕ) → all ≡ f ∷ [] → is_number_field f ≡ false → number_among all ≡ None
 unfolding number_among

@@ -1,5 +1,5 @@
 -- Ids among the words of a text.
-use Rattle.std.specs.Prelude.{ℕ, zero, suc, Bool, not, List, Option, Some, None, ◌+◌, ◌-◌, ◌*◌, ◌==◌, ◌&&◌, ◌||◌, drop, get_or, length, nat_le, take, if◌then◌else◌}
+use Rattle.std.specs.Prelude.{ℕ, zero, suc, Bool, true, false, not, List, Option, Some, None, ◌+◌, ◌-◌, ◌*◌, ◌==◌, ◌&&◌, ◌||◌, drop, get_or, length, nat_le, take, if◌then◌else◌}
 use Rattle.page_ids.specs.Ids.{Id}
 use Rattle.page_ids.specs.Texts.{id_with, letter_in, page_in}
 
@@ -22,25 +22,25 @@ is_between_words text at =
     get_or text at 0 == 32 || get_or text at 0 == 9 || get_or text at 0 == 44 || get_or text at 0 == 59 || get_or text at 0 == 61
     || get_or text at 0 == 58 && not (get_or text (at + 1) 0 == 47)
 
--- where the word begins that goes to the end of the first n bytes
-unfoldable pub word_start : List ℕ → ℕ → ℕ
-word_start text zero = 0
-word_start text (suc n) = if is_between_words text n then suc n else word_start text n
+-- whether a byte belongs to a gap between words, or else to a word
+abbrev pub belongs : Bool → List ℕ → ℕ → Bool
+belongs true text at = is_between_words text at
+belongs false text at = not (is_between_words text at)
 
--- where the last word ends in the first n bytes
-unfoldable pub word_end : List ℕ → ℕ → ℕ
-word_end text zero = 0
-word_end text (suc n) = if is_between_words text n then word_end text n else suc n
+-- where the gap, or else the word, begins that goes to the end of the first n bytes
+unfoldable pub run_start : Bool → List ℕ → ℕ → ℕ
+run_start gap text zero = 0
+run_start gap text (suc n) = if belongs gap text n then run_start gap text n else suc n
 
 abbrev pub bytes_between : List ℕ → ℕ → ℕ → List ℕ
 bytes_between text from to = take (to - from) (drop from text)
 
 abbrev pub last_word_to : List ℕ → ℕ → List ℕ
-last_word_to text end = bytes_between text (word_start text end) end
+last_word_to text end = bytes_between text (run_start false text end) end
 
 -- the word before the one that goes to the end, which begins the address
 abbrev pub word_before : List ℕ → List ℕ
-word_before text = last_word_to text (word_end text (word_start text (length text)))
+word_before text = last_word_to text (run_start true text (run_start false text (length text)))
 
 -- The number of a teletext page.
 

@@ -144,14 +144,10 @@ fn push_line(
 ) -> Result<(), TextScreensFault>
     ensures { loops.IsLineAdded line screens.old.items screens.new.items (spec.line_screen line text.now) result }
 {
-    match line_screen(alloc, line, text) {
-        Ok(Ok(None)) => Ok(()),
-        Ok(Ok(Some(screen))) => match screens.push(screen) {
-            Ok(()) => Ok(()),
-            Err(_) => Err(TextScreensFault::Memory),
-        },
-        Ok(Err(fault)) => Err(TextScreensFault::Line(FaultyLine { line, fault })),
-        Err(_) => Err(TextScreensFault::Memory),
+    match line_screen(alloc, line, text)? {
+        Ok(None) => Ok(()),
+        Ok(Some(screen)) => screens.push(screen).map_err(|_| TextScreensFault::Memory),
+        Err(fault) => Err(TextScreensFault::Line(FaultyLine { line, fault })),
     }
 }
 
@@ -168,15 +164,10 @@ pub fn linked_screens(alloc: Global, text: &[u8]) -> Result<Vec<TextScreen>, Tex
     let mut line = 1;
     let mut left = after_byte_mark(text);
     while let Some((text, rest)) = cut(left, b'\n') {
-        match push_line(alloc, &mut screens, line, text) {
-            Ok(()) => {}
-            Err(fault) => return Err(fault),
-        }
+        push_line(alloc, &mut screens, line, text)?;
         line += 1;
         left = rest;
     }
-    match push_line(alloc, &mut screens, line, left) {
-        Ok(()) => Ok(screens),
-        Err(fault) => Err(fault),
-    }
+    push_line(alloc, &mut screens, line, left)?;
+    Ok(screens)
 }

@@ -104,22 +104,7 @@ pub fn unpacked(alloc: Global, bytes: &[u8]) -> Result<Vec<u8>, AllocError>
 pub fn store_codes(cells: &mut [u8])
     ensures { cells.new ≡ map spec.stored_code cells.old }
 {
-    for at in 0..cells.len() {
-        cells[at] = stored_code(cells[at]);
-    }
-}
-
-fn low_bits(code: u8) -> u8
-    ensures { result ≡ spec.low_bits code }
-{
-    code % 128
-}
-
-// Takes the top bit off each code.
-pub fn drop_top_bits(codes: &mut [u8])
-    ensures { codes.new ≡ map spec.low_bits codes.old }
-{
-    for at in 0..codes.len() {
-        codes[at] = low_bits(codes[at]);
+    for cell in cells.iter_mut() {
+        *cell = stored_code(*cell);
     }
 }

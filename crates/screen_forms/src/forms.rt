@@ -4,7 +4,6 @@ ghost use Rattle.std.specs.Prelude.{◌≡◌, ◌++◌, OnOk, map};
 ghost use Rattle.screen_forms.specs.Bits.{low_bits};
 ghost use Rattle.screen_forms.specs.Forms as spec;
 
-use crate::bits::drop_top_bits;
 use crate::links::push_address;
 use crate::sheet_lines::push_tti;
 use page_ids::{FrameId, push_id};
@@ -23,12 +22,29 @@ pub enum SavedForm {
     Link,
 }
 
+/// How a screen is written.
+#[derive(Debug, Clone, Copy, PartialEq, Eq)]
+pub enum Form {
+    /// Characters, 24 lines.
+    Text,
+    /// The same in the colours of a terminal.
+    Ansi,
+    /// A picture.
+    Svg,
+    /// Its 960 codes.
+    Cells,
+    /// The address at which edit.tf shows it, and a line end.
+    Link,
+}
+
 // The codes without their top bits.
 fn low_codes(codes: &[u8; 960]) -> [u8; 960]
     ensures { result ≡ map low_bits codes.now }
 {
     let mut low = *codes;
-    drop_top_bits(&mut low);
+    for code in low.iter_mut() {
+        *code %= 128;
+    }
     low
 }
 

@@ -58,23 +58,14 @@ fn usual_letter(letter: u8) -> u8
     }
 }
 
-// Writes each letter in the form of addresses.
-fn make_usual(letters: &mut [u8])
-    ensures { letters.new ≡ map spec.usual_letter letters.old }
-{
-    for at in 0..letters.len() {
-        letters[at] = usual_letter(letters[at]);
-    }
-}
-
 // A copy of letters in the form of addresses.
 fn usual_letters(alloc: Global, letters: &[u8]) -> Result<Vec<u8>, AllocError>
     ensures { IfOk result (λ usual. usual.items ≡ map spec.usual_letter letters.now) }
 {
-    let mut usual = Vec::new(alloc);
-    usual.extend_from_slice(letters)?;
-    make_usual(usual.as_mut_slice());
-    Ok(usual)
+    letters
+        .iter()
+        .map(|letter| usual_letter(*letter))
+        .collect(alloc)
 }
 
 // The codes of all 24 rows.

@@ -283,9 +283,7 @@ impl SheetReader {
         ensures { loops.IsSheetRead (spec.in_line line (spec.then_page (loops.sheet_of self.old) line number))
             self.new result }
     {
-        if self.close().is_err() {
-            return Err(TextScreensFault::Memory);
-        }
+        self.close()?;
         if self.done.len() >= MOST_SHEET_PAGES {
             return Err(fault_in(line, TextLineFault::Pages));
         }
@@ -320,12 +318,7 @@ impl SheetReader {
     {
         match row_number(before_first_byte(rest, b',')) {
             Some(number) => self.put_row(number, after_first_byte(rest, b',')),
-            None => {
-                return Err(TextScreensFault::Line(FaultyLine {
-                    line,
-                    fault: TextLineFault::Row,
-                }));
-            }
+            None => return Err(fault_in(line, TextLineFault::Row)),
         }
         Ok(())
     }
@@ -352,10 +345,7 @@ impl SheetReader {
         let mut line = 1;
         let mut left = text;
         while let Some((text, rest)) = cut(left, b'\n') {
-            match self.add_line(line, without_return(text)) {
-                Ok(()) => {}
-                Err(fault) => return Err(fault),
-            }
+            self.add_line(line, without_return(text))?;
             line += 1;
             left = rest;
         }
@@ -372,12 +362,7 @@ pub fn sheet_screens(alloc: Global, text: &[u8]) -> Result<Vec<TextScreen>, Text
     ensures { AreTextScreens (spec.sheet_screens text.now) result }
 {
     let mut sheet = SheetReader::new(alloc);
-    match sheet.add_lines(after_byte_mark(text)) {
-        Ok(()) => {}
-        Err(fault) => return Err(fault),
-    }
-    match sheet.close() {
-        Ok(()) => Ok(sheet.done),
-        Err(_) => Err(TextScreensFault::Memory),
-    }
+    sheet.add_lines(after_byte_mark(text))?;
+    sheet.close()?;
+    Ok(sheet.done)
 }

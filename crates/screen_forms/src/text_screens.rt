@@ -2,8 +2,10 @@
 
 ghost use Rattle.std.specs.Prelude.{◌≡◌};
 ghost use Rattle.screen_forms.specs.TextScreens as spec;
+ghost use Rattle.screen_forms.specs.declared.text_screens.TextScreensFault.TheVariants.{Memory};
 
 use page_ids::FrameId;
+use std::alloc::AllocError;
 
 /// A screen in a text: that of an address of edit.tf or of a page of TTI.
 #[derive(Debug, Clone, Copy, PartialEq, Eq)]
@@ -45,6 +47,14 @@ pub enum TextScreensFault {
     Line(FaultyLine),
     /// A growth was refused.
     Memory,
+}
+
+impl From<AllocError> for TextScreensFault {
+    ghost from_gives = { λ _ e. e ≡ Memory };
+
+    fn from(_e: AllocError) -> TextScreensFault {
+        TextScreensFault::Memory
+    }
 }
 
 // The text without a byte order mark.

@@ -38,32 +38,30 @@ fn is_between_words(text: &[u8], at: usize) -> bool
     }
 }
 
-// Where the word begins that goes to this end.
+// Whether a byte belongs to a gap between words, or else to a word.
+fn belongs(text: &[u8], at: usize, gap: bool) -> bool
+    requires { at < length text.now }
+    ensures { result ≡ spec.belongs gap text.now at }
+{
+    if gap {
+        is_between_words(text, at)
+    } else {
+        !is_between_words(text, at)
+    }
+}
+
+// Where the gap begins that goes to this end, or else the word.
 #[tactic(auto, using(crate::proofs::Walks::start_none, crate::proofs::Walks::start_step, crate::proofs::Walks::start_stop))]
-fn word_start(text: &[u8], end: usize) -> usize
+fn run_start(text: &[u8], end: usize, gap: bool) -> usize
     requires { end ≤ length text.now }
-    ensures value { result ≡ spec.word_start text.now end }
+    ensures value { result ≡ spec.run_start gap text.now end }
     ensures within { result ≤ end }
 {
     let mut start = end;
-    while start > 0 && !is_between_words(text, start - 1) {
+    while start > 0 && belongs(text, start - 1, gap) {
         start -= 1;
     }
     start
-}
-
-// Where the last word ends up to this end.
-#[tactic(auto, using(crate::proofs::Walks::end_none, crate::proofs::Walks::end_step, crate::proofs::Walks::end_stop))]
-fn word_end(text: &[u8], end: usize) -> usize
-    requires { end ≤ length text.now }
-    ensures value { result ≡ spec.word_end text.now end }
-    ensures within { result ≤ end }
-{
-    let mut end = end;
-    while end > 0 && is_between_words(text, end - 1) {
-        end -= 1;
-    }
-    end
 }
 
 // The word that goes to this end.
@@ -71,14 +69,15 @@ fn last_word_to(text: &[u8], end: usize) -> &[u8]
     requires { end ≤ length text.now }
     ensures { result.now ≡ spec.last_word_to text.now end }
 {
-    &text[word_start(text, end)..end]
+    &text[run_start(text, end, false)..end]
 }
 
 // The word before the one that goes to the end of a text, which begins the address.
 pub fn word_before(text: &[u8]) -> &[u8]
     ensures { result.now ≡ spec.word_before text.now }
 {
-    last_word_to(text, word_end(text, word_start(text, text.len())))
+    let word = run_start(text, text.len(), false);
+    last_word_to(text, run_start(text, word, true))
 }
 
 // The letter of a subpage.

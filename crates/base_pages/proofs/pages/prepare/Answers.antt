@@ -1,7 +1,7 @@
 use Rattle.std.proofs.Common.{◌∙◌, List, ap, rules, subst}
 use Rattle.page_ids.specs.Ids.{Id}
 use Rattle.frame_records.specs.Bases.{BaseView}
-use Rattle.fault_scripts.specs.declared.fault.Fault.{Fault}
+use Rattle.base_faults.specs.declared.fault.Fault.{Fault}
 use Rattle.fault_scripts.specs.Outcomes.{IsOutcome}
 use Rattle.base_pages.specs.Loops.{numbers_of, numbered_faults}
 use Rattle.base_pages.proofs.pages.prepare.Goals as goal

@@ -2,7 +2,7 @@ use Rattle.std.proofs.Common.{◌≡◌, ◌∙◌, ℕ, List, Option, ap, sym, 
 use Rattle.page_ids.specs.Ids.{Id}
 use Rattle.frame_records.specs.Bases.{BaseView}
 use Rattle.checker.specs.declared.policy.Policy.{Policy}
-use Rattle.fault_scripts.specs.declared.fault.Fault.{Fault}
+use Rattle.base_faults.specs.declared.fault.Fault.{Fault}
 use Rattle.lint.specs.FrameLines.{SentenceView}
 use Rattle.base_pages.specs.declared.pages.Prepared.{Prepared}
 use Rattle.base_pages.specs.Sections.{BookView, SourceView, source_view}

@@ -1,4 +1,4 @@
-use Rattle.std.proofs.Common.{◌∙◌, ◌++◌, ◌∷◌, [], ℕ, List, sym, ap, append_assoc, append-nil, arith}
+use Rattle.std.proofs.Common.{◌∙◌, ◌++◌, ◌∷◌, [], ℕ, List, sym, ap, append_assoc, append-nil, arith, rules, ◌≡◌}
 use Rattle.std.specs.Prelude.{map}
 use Rattle.std.specs.List.{flat_map, range_with_len}
 use Rattle.std.proofs.lemmas.List.FromFn.{map-range_with_len_more}
@@ -17,7 +17,8 @@ loop-place-preserved c =
     let one : Way → List Piece = λ way. way_pieces c.args.part.now (way_key way) (destination_of c.args.groups.now c.args.base.now c.args.frame.now way) in
     let before : List Way = map way_at (range_with_len 0 n) in
     let start : List ℕ = c.args.out.now.items in
-    c.in_ok-push_way_at.ensures
+    let wrote : c.push_way.new.out.items ≡ c.loop-place.out.items ++ markup (one (way_at n)) = search rules in
+    wrote
     ∙ ap (λ xs. xs ++ markup (one (way_at n))) c.loop-place.invariant
     ∙ append_assoc start (markup (flat_map one before)) (markup (one (way_at n)))
     ∙ ap (λ xs. start ++ xs) (sym (markup_append (flat_map one before) (one (way_at n))))

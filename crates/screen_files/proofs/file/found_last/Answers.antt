@@ -9,12 +9,12 @@ use Rattle.screen_files.specs.Loops.{IsFound}
 use Rattle.screen_files.proofs.Lasts.{found_at}
 use Rattle.screen_files.proofs.file.found_last.Goals as goal
 
-pub returns-in-Ok : goal.returns-in-Ok
-returns-in-Ok c =
+pub returns : goal.returns
+returns c =
     let last = c.in-Some.last.now in
     let before = c.in-Some.before.now in
     let is : c.args.shots.now ≡ before ++ last ∷ [] = search rules in
-    let unnamed : c.in-Ok.unnamed.items ≡ map (λ (s : Shot). s.byte) before = c.in-Ok.ensures in
+    let unnamed : c.in_ok-unnamed.unnamed.items ≡ map (λ (s : Shot). s.byte) before = c.in_ok-unnamed.ensures in
     let frame : c.named_frame.result ≡ named_frame c.args.path.now last.codes = c.named_frame.ensures in
     let found = ap (λ (ns : List ℕ). found_one c.args.file (Byte last.byte) ns c.named_frame.result) unnamed
     ∙ ap (λ (r : Result ScreenFrame ScreenFault). found_one c.args.file (Byte last.byte) (map (λ (s : Shot). s.byte) before) r) frame

@@ -13,7 +13,7 @@ loop-discovered-preserved c = λ id.
     let i = c.loop-discovered.discovered-index in
     let d = c.discovered-item.result in
     let listed = is_listed (take i found) id in
-    c.in-Ok.ensures.updates.0 id
+    c.in_ok-insert.ensures.updates.0 id
     ∙ ap (λ b. cond (id_eq d.id id) true b) (c.loop-discovered.invariant id)
     ∙ or_cond (id_eq d.id id) listed
     ∙ ap (λ e. listed || id_eq e.id id) c.discovered-item.is

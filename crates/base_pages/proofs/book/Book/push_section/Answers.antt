@@ -1,7 +1,7 @@
 use Rattle.std.proofs.Common.{◌≡◌, ◌∙◌, ◌++◌, ℕ, Bool, List, ap, subst}
 use Rattle.std.specs.Prelude.{OnOk}
 use Rattle.frame_records.specs.Bases.{BaseView}
-use Rattle.fault_scripts.specs.declared.fault.Fault.{Fault}
+use Rattle.base_faults.specs.declared.fault.Fault.{Fault}
 use Rattle.screens.specs.Looks.{looks}
 use Rattle.screens.specs.Svg.{Piece, markup}
 use Rattle.frame_screens.specs.Frames.{place_of, way_by}
