@@ -1,4 +1,4 @@
-//! Tests of `finder`, `checker`, `fault_scripts` and `audit_report`.
+//! Tests of `finder`, `checker`, `base_faults`, `fault_scripts` and `audit_report`.
 #![tactic(auto)]
 
 #[cfg(test)]

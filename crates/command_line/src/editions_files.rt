@@ -1,11 +1,11 @@
 //! The command `editions`: a folder is read under its lock, which is shared with others who only read.
 
-use crate::edition_folder::{FolderFiles, path_in};
-use crate::named_files::{Unfinished, report, unread};
 use crate::publish_files::{
     MEMORY, NO_FILE, NO_NUMBER, UNREAD, report_edition, report_failed, report_in,
 };
+use crate::reports::report;
 use audit_report::{IntoWrite, RunFault};
+use disk_files::{FolderFiles, Unfinished, path_in, unread};
 use edition_lists::{EditionsFault, FolderFault, run_list, run_verify, status_of_editions};
 use std::alloc::Global;
 use std::fs::File;

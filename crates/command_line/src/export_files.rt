@@ -1,10 +1,10 @@
 //! The command `export`: the screen of each frame of a base, in a file of its own. A screen is written beside it under another name,
 //! which then becomes its own, so that no half file is left.
 
-use crate::named_files::{Unfinished, open_base, report, unwritten};
-use crate::out_file::new_beside;
+use crate::reports::report;
 use audit_report::{FromRead, IntoWrite, RunFault};
 use command_words::Export;
+use disk_files::{Unfinished, new_beside, open_base, unwritten};
 use frame_records::Base;
 use page_ids::FrameId;
 use pageaudit::{Gallery, SavedForm, read_exported, run_export};

@@ -1,11 +1,9 @@
 //! `lint --fix` and `lint --diff`: the fixed text of a base, in its file's place or as a diff.
 
-use crate::diff_lines::diff_text;
-use crate::named_files::{Unfinished, open_base, unwritten};
-use crate::out_file::{Out, open_out};
 use audit_report::{FromRead, IntoWrite, RunFault, SourceFault, read_whole, write_whole};
 use base_text::MOST_TEXT;
 use checker::Policy;
+use disk_files::{Out, Unfinished, diff_text, open_base, open_out, unwritten};
 use slip_fixes::{Fixed, fix_slips};
 use std::io;
 use std::rt::Files;

@@ -1,10 +1,11 @@
 //! The command `import`: the screens of one file after another, and then the base that is made of them.
 
 use crate::merge_files::import_into;
-use crate::named_files::{Unfinished, ended, open_base, report};
+use crate::reports::report;
 use crate::screen_paths::{screen_paths, words_of};
 use audit_report::{FromRead, IntoWrite, RunFault};
 use command_words::Import;
+use disk_files::{Unfinished, ended, open_base};
 use pageaudit::{
     Album, FaultyLine, FileFrames, ImportFault, ImportStatus, ScreenFault, ScreenPlace, Settled,
     TextLineFault, Twin, run_import, status_of_import, take_frames,

@@ -1,10 +1,10 @@
 //! The command `lint`: one base after another, and one count at the end.
 
 use crate::fix_files::{fixed_text, print_diff, print_text, replace_text};
-use crate::named_files::{Unfinished, ended, is_input, open_base, report};
-use crate::terminal::shows_colours;
+use crate::reports::report;
 use audit_report::{FromRead, IntoWrite, RunFault};
 use command_words::{Colouring, Fixing, Lint};
+use disk_files::{Unfinished, ended, is_input, open_base, shows_colours};
 use pageaudit::{Counts, Format, LintReport, counted_text, run_lint, status_of_lint};
 use std::alloc::Global;
 use std::io;
@@ -158,7 +158,7 @@ pub fn print_counts<R: Eprint + AllocGlobal>(rt: &R, counts: &Counts) {
 
 // What is printed of findings: the form `full` is in colour if it was asked for, or suits standard output.
 fn report_of<R: Files + Env + AllocGlobal>(rt: &R, asked: &Lint) -> Result<LintReport, RunFault> {
-    let is_coloured = match (asked.report.format, asked.colouring) {
+    let is_coloured = match (asked.format, asked.colouring) {
         (Format::Full, Colouring::Always) => true,
         (Format::Full, Colouring::Auto) => shows_colours(rt)?,
         _ => false,
@@ -166,11 +166,12 @@ fn report_of<R: Files + Env + AllocGlobal>(rt: &R, asked: &Lint) -> Result<LintR
     let format = if is_coloured {
         Format::Coloured
     } else {
-        asked.report.format
+        asked.format
     };
     Ok(LintReport {
         format,
-        ..asked.report
+        ignored: asked.ignored,
+        is_quiet: asked.is_quiet,
     })
 }
 

@@ -5,45 +5,42 @@
 //! picks the exit status.
 #![tactic(auto)]
 
-mod diff_lines;
-mod edition_folder;
-mod edition_store;
 mod editions_files;
 mod export_files;
 mod fix_files;
 mod import_files;
 mod lint_files;
 mod merge_files;
-mod named_files;
-mod out_file;
 mod pages_file;
 mod publish_files;
+mod reports;
 mod screen_paths;
 mod serve_call;
 mod serve_line;
 mod serve_notes;
 mod show_screen;
-mod terminal;
 
 use audit_report::{FromRead, IntoWrite, RunFault, fault_text, write_whole};
 use checker::Policy;
 use clap::error::ErrorKind;
 use clap::{ArgMatches, Error};
 use command_words::{Pages, Request, Show, WordsFault, asked_for, groups_of, matches, words};
+use disk_files::{
+    Opened, Out, Unfinished, ended, is_same_file, open, open_base, open_out, path_to,
+};
 use editions_files::show_editions;
 use explain::{explanation, nearest, overview};
 use export_files::export;
 use frame_records::Groups;
 use import_files::import;
 use lint_files::lint;
-use named_files::{Opened, Unfinished, ended, open, open_base, path_to, report};
-use out_file::{Out, is_same_file, open_out};
 use pageaudit::{
     ListForm, MapStatus, Status, View, run_audit, run_audit_into, run_change, run_check, run_list,
     run_map, run_walk, status_of, status_of_map,
 };
 use pages_file::pages;
 use publish_files::publish;
+use reports::report;
 use serve_call::serve_call;
 use show_screen::show;
 use std::alloc::{AllocError, Global};

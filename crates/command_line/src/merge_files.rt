@@ -1,13 +1,13 @@
 //! `import --into`: the frames of screens in a base's file.
 
-use crate::diff_lines::diff_of_edits;
 use crate::fail;
 use crate::fix_files::{print_text, read_text, replace_text};
 use crate::import_files::path_of;
-use crate::named_files::{Unfinished, is_input, report};
+use crate::reports::report;
 use audit_report::RunFault;
 use base_text::{BaseCause, BaseFault};
 use command_words::Import;
+use disk_files::{Unfinished, diff_of_edits, is_input};
 use frame_edits::{MergeFault, Merged, merge_frames};
 use page_ids::{FrameId, push_id, push_number};
 use pageaudit::Settled;

@@ -2,11 +2,11 @@
 
 ghost use Rattle.std.specs.Prelude.{◌≡◌, false};
 
-use crate::named_files::{Opened, Unfinished, ended, open_base, report_written};
-use crate::out_file::{Out, named_out};
+use crate::reports::report_written;
 use crate::tell_no_page;
 use audit_report::{FromRead, IntoWrite, RunFault};
 use command_words::Pages;
+use disk_files::{Opened, Out, Unfinished, ended, named_out, open_base};
 use pageaudit::{PagesStatus, run_pages, status_of_pages};
 use std::io;
 use std::rt::{Files, Stderr};

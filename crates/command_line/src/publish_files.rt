@@ -2,14 +2,15 @@
 
 ghost use Rattle.std.specs.Prelude.{true, false};
 
-use crate::edition_folder::{FolderFiles, path_in};
-use crate::edition_store::{flush_folder, write_policy};
 use crate::lint_files::print_counts;
-use crate::named_files::{Unfinished, open_base, path_to, report, unwritten};
-use crate::out_file::is_same_file;
 use crate::pages_file::{name_of, pages_of};
+use crate::reports::report;
 use audit_report::{FromRead, IntoWrite, RunFault};
 use command_words::{Pages, Publish as Asked};
+use disk_files::{
+    FolderFiles, Unfinished, flush_folder, is_same_file, open_base, path_in, path_to, unwritten,
+    write_policy,
+};
 use editions::{EditionFile, EditionFolder};
 use pageaudit::View;
 use policy_text::{PolicyFault, policy_read, widest_text};

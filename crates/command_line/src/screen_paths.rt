@@ -1,7 +1,8 @@
 //! The files that `import` reads: a folder is the files in it.
 
-use crate::named_files::{Unfinished, is_folder, report, unread};
+use crate::reports::report;
 use audit_report::RunFault;
+use disk_files::{Unfinished, is_folder, unread};
 use std::alloc::{AllocError, Global};
 use std::rt::Files;
 use std::{fs, io};

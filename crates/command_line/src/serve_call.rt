@@ -2,15 +2,15 @@
 
 ghost use Rattle.std.specs.Prelude.{◌≡◌, false};
 
-use crate::edition_folder::FolderFiles;
 use crate::editions_files::shut;
-use crate::named_files::report;
+use crate::reports::report;
 use crate::serve_line::{CallerInput, CallerOutput};
 use crate::serve_notes::CallNotes;
 use ansi_line::{AnsiKeys, AnsiScreen};
 use audit_report::{RunFault, verdict_text};
 use checker::{Cause, Verdict};
 use command_words::{CallForm, Serve};
+use disk_files::FolderFiles;
 use edition_checks::ServedFault;
 use editions::EditionFile;
 use one_call::{CallFault, ServeFault, serve};

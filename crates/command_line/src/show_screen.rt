@@ -1,10 +1,9 @@
 //! The command `show`: in which form, into which file, and what is said if there is no screen.
 
-use crate::named_files::{Opened, Unfinished, ended, open_base, report_written};
-use crate::out_file::{Out, named_out};
-use crate::terminal::shows_colours;
+use crate::reports::report_written;
 use audit_report::{FromRead, IntoWrite, RunFault};
 use command_words::Show;
+use disk_files::{Opened, Out, Unfinished, ended, named_out, open_base, shows_colours};
 use frame_records::Groups;
 use page_ids::FrameId;
 use pageaudit::{Form, ShowStatus, Target, read_keys, run_show, status_of_show};

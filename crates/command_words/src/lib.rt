@@ -9,10 +9,13 @@
 //!   [`Publish`], [`Serve`], [`CallForm`]: the caller's groups, and what is asked for.
 #![tactic(auto)]
 
+mod asked;
 mod command;
 mod help;
+mod request;
 
-pub use command::{
+pub use asked::{asked_for, groups_of};
+pub use command::{WordsFault, matches, words};
+pub use request::{
     CallForm, Colouring, Export, Fixing, Import, Lint, Pages, Publish, Request, Serve, Show,
-    WordsFault, asked_for, groups_of, matches, words,
 };

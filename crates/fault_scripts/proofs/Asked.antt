@@ -22,9 +22,9 @@ use Rattle.abstract_paint.proofs.Least.{starts_are_one}
 use Rattle.abstract_paint.proofs.LeastStart.{is_start}
 use Rattle.checker.specs.declared.policy.Policy.{Policy}
 use Rattle.finder.specs.Finds.{Walk, IsRank}
-use Rattle.fault_scripts.specs.declared.fault.Fault.{Fault}
-use Rattle.fault_scripts.specs.declared.fault.FaultKind.{FaultKind}
-use Rattle.fault_scripts.specs.declared.fault.FaultKind.TheVariants as kind
+use Rattle.base_faults.specs.declared.fault.Fault.{Fault}
+use Rattle.base_faults.specs.declared.fault.FaultKind.{FaultKind}
+use Rattle.base_faults.specs.declared.fault.FaultKind.TheVariants as kind
 use Rattle.fault_scripts.specs.declared.frame_fault.FrameFault.{FrameFault}
 use Rattle.fault_scripts.specs.declared.frame_fault.FrameFault.TheVariants.{Price, Touches, Missing, Closed, NoReturn}
 use Rattle.fault_scripts.specs.Faults.{KeyIsDue, IsDueAs, key_number, turn_of}

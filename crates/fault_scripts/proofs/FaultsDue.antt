@@ -6,7 +6,7 @@ use Rattle.frame_records.specs.declared.base.Sought.{Sought}
 use Rattle.frame_records.specs.Bases.{BaseView}
 use Rattle.frame_records.specs.Seek.{seek_entry}
 use Rattle.checker.specs.declared.policy.Policy.{Policy}
-use Rattle.fault_scripts.specs.declared.fault.Fault.{Fault}
+use Rattle.base_faults.specs.declared.fault.Fault.{Fault}
 use Rattle.fault_scripts.specs.Faults.{IsOfPlace, turn_at, AreFaultsAlong, AreFaultsBy, AreFaults}
 use Rattle.fault_scripts.specs.FaultLaws.{FaultsAreDue}
 use Rattle.fault_scripts.proofs.Reported.{own_place}

@@ -8,7 +8,7 @@ use Rattle.checker.specs.declared.policy.Policy.{Policy}
 use Rattle.checker.specs.Safe.{Safe}
 use Rattle.checker.proofs.Steps.{safe}
 use Rattle.finder.specs.Finds.{EntryIsFound}
-use Rattle.fault_scripts.specs.declared.fault.Fault.{Fault}
+use Rattle.base_faults.specs.declared.fault.Fault.{Fault}
 use Rattle.fault_scripts.specs.Faults.{IsDue, AreFaultsAlong, AreFaultsBy, AreFaults}
 use Rattle.fault_scripts.specs.FaultLaws.{NoneIsSafe}
 use Rattle.fault_scripts.proofs.GoodRows.{certificate, good}

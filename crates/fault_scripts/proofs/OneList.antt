@@ -9,7 +9,7 @@ use Rattle.checker.specs.declared.policy.Policy.{Policy}
 use Rattle.finder.specs.declared.found.Discovered.{Discovered}
 use Rattle.finder.specs.Finds.{IsFinding}
 use Rattle.finder.proofs.OneFound.{one_found}
-use Rattle.fault_scripts.specs.declared.fault.Fault.{Fault}
+use Rattle.base_faults.specs.declared.fault.Fault.{Fault}
 use Rattle.fault_scripts.specs.Faults.{IsDue, ComesBefore, AreDue, AreFaultsAlong, AreFaultsBy}
 use Rattle.fault_scripts.specs.FaultLaws.{FaultsAreOne}
 use Rattle.fault_scripts.proofs.Lists.{none_in}

@@ -17,9 +17,9 @@ use Rattle.session_machine.specs.declared.reply.Reply.TheVariants.{Shown, Missin
 use Rattle.session_machine.specs.Sessions.{SessionState, At, present, Outcome, key_step, by_way, opening, opening_reply}
 use Rattle.checker.specs.declared.policy.Policy.{Policy}
 use Rattle.finder.specs.Finds.{KeysLead}
-use Rattle.fault_scripts.specs.declared.fault.Fault.{Fault}
-use Rattle.fault_scripts.specs.declared.fault.FaultKind.{FaultKind}
-use Rattle.fault_scripts.specs.declared.fault.FaultKind.TheVariants as kind
+use Rattle.base_faults.specs.declared.fault.Fault.{Fault}
+use Rattle.base_faults.specs.declared.fault.FaultKind.{FaultKind}
+use Rattle.base_faults.specs.declared.fault.FaultKind.TheVariants as kind
 use Rattle.fault_scripts.specs.Faults.{PriceIsDue, TouchIsDue, KeyIsDue, NoReturnIsDue, IsDueAs, AreFaultsBy, plain_fault, price_fault, touch_fault, key_fault}
 use Rattle.fault_scripts.specs.FaultLaws.{FaultsAreShown}
 use Rattle.fault_scripts.specs.Shows.{last_state, ShowsPrice, ShowsTouch, ShowsKey, ShowsNoReturn, ShowsAs, Shows}

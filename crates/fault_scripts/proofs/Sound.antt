@@ -25,8 +25,8 @@ use Rattle.terminal_codes.specs.Bodies.{IsClean}
 use Rattle.checker.specs.declared.policy.Policy.{Policy}
 use Rattle.finder.specs.declared.found.Discovered.{Discovered}
 use Rattle.finder.specs.Finds.{IsFinding, script, Walk, IsDistance, IsRank, IsReached}
-use Rattle.fault_scripts.specs.declared.fault.Fault.{Fault}
-use Rattle.fault_scripts.specs.declared.fault.FaultKind.TheVariants as kind
+use Rattle.base_faults.specs.declared.fault.Fault.{Fault}
+use Rattle.base_faults.specs.declared.fault.FaultKind.TheVariants as kind
 use Rattle.fault_scripts.specs.Faults.{IsDueAs, IsDue, plain_fault, price_fault, touch_fault, key_fault}
 use Rattle.fault_scripts.proofs.Discoveries.{IsDiscovered, listed_frame}
 

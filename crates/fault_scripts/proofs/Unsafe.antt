@@ -24,9 +24,9 @@ use Rattle.terminal_codes.specs.Bodies.{IsClean}
 use Rattle.checker.specs.declared.policy.Policy.{Policy}
 use Rattle.checker.specs.Safe.{Safe, IsCleanAt, IsCleanReply}
 use Rattle.finder.specs.Finds.{Walk}
-use Rattle.fault_scripts.specs.declared.fault.Fault.{Fault}
-use Rattle.fault_scripts.specs.declared.fault.FaultKind.{FaultKind}
-use Rattle.fault_scripts.specs.declared.fault.FaultKind.TheVariants as kind
+use Rattle.base_faults.specs.declared.fault.Fault.{Fault}
+use Rattle.base_faults.specs.declared.fault.FaultKind.{FaultKind}
+use Rattle.base_faults.specs.declared.fault.FaultKind.TheVariants as kind
 use Rattle.fault_scripts.specs.Shows.{final_reply, last_reply, last_state, ShowsEntry, ShowsPrice, ShowsTouch, ShowsKey, ShowsNoReturn, ShowsAs, Shows}
 use Rattle.fault_scripts.proofs.Sessions.{last_and_key}
 

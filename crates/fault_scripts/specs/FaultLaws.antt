@@ -5,7 +5,7 @@ use Rattle.frame_records.specs.Bases.{BaseView, AreApart}
 use Rattle.frame_records.specs.Seek.{seek_entry}
 use Rattle.checker.specs.declared.policy.Policy.{Policy}
 use Rattle.checker.specs.Safe.{Safe}
-use Rattle.fault_scripts.specs.declared.fault.Fault.{Fault}
+use Rattle.base_faults.specs.declared.fault.Fault.{Fault}
 use Rattle.fault_scripts.specs.Faults.{AreFaults, AreFaultsAlong}
 use Rattle.fault_scripts.specs.Shows.{Shows}
 

@@ -13,7 +13,7 @@ use Rattle.fault_scripts.specs.declared.table.GatheredRows.{GatheredRows}
 use Rattle.page_ids.specs.declared.key.Key.{Key}
 use Rattle.checker.specs.declared.policy.Policy.{Policy}
 use Rattle.finder.specs.Finds.{IsFinding, ScriptsExtend, script}
-use Rattle.fault_scripts.specs.declared.fault.Fault.{Fault}
+use Rattle.base_faults.specs.declared.fault.Fault.{Fault}
 use Rattle.fault_scripts.specs.declared.frames.Judge.{Judge}
 use Rattle.fault_scripts.specs.declared.reporter.Reporter.{Reporter}
 use Rattle.fault_scripts.specs.Faults.{IsDue, ComesBefore, turn_at, plain_fault, price_fault, touch_fault, key_fault}
@@ -22,7 +22,7 @@ use Rattle.cert_table.specs.Table.{CertView, table_fault}
 use Rattle.fault_scripts.specs.declared.table.GatheredRows as held
 use Rattle.page_ids.specs.Ways.{way_key}
 use Rattle.frame_records.specs.declared.ways.Destination.TheVariants as way
-use Rattle.fault_scripts.specs.declared.fault.FaultKind.TheVariants as kind
+use Rattle.base_faults.specs.declared.fault.FaultKind.TheVariants as kind
 use Rattle.fault_scripts.specs.declared.frame_fault.FrameFault.{FrameFault}
 use Rattle.fault_scripts.specs.declared.frame_fault.FrameFault.TheVariants as wrong
 use Rattle.page_ids.specs.declared.way.Way.{Way}

@@ -12,7 +12,7 @@ use Rattle.checker.specs.Good.{is_row_of}
 use Rattle.checker.specs.Safe.{Safe}
 use Rattle.checker.specs.Verdict.{verdict}
 use Rattle.finder.specs.Finds.{IsReached, IsDistance}
-use Rattle.fault_scripts.specs.declared.fault.Fault.{Fault}
+use Rattle.base_faults.specs.declared.fault.Fault.{Fault}
 use Rattle.fault_scripts.specs.declared.outcome.Outcome.{Outcome}
 use Rattle.fault_scripts.specs.declared.outcome.Outcome.TheVariants.{Certified, Faulty}
 use Rattle.fault_scripts.specs.Faults.{AreFaults}

@@ -18,9 +18,9 @@ use Rattle.abstract_paint.specs.Start.{IsLeastStart}
 use Rattle.session_machine.specs.declared.reply.Reply.TheVariants.{Shown, Missing, Closed}
 use Rattle.checker.specs.declared.policy.Policy.{Policy}
 use Rattle.finder.specs.Finds.{Walk}
-use Rattle.fault_scripts.specs.declared.fault.Fault.{Fault}
-use Rattle.fault_scripts.specs.declared.fault.FaultKind.{FaultKind}
-use Rattle.fault_scripts.specs.declared.fault.FaultKind.TheVariants as kind
+use Rattle.base_faults.specs.declared.fault.Fault.{Fault}
+use Rattle.base_faults.specs.declared.fault.FaultKind.{FaultKind}
+use Rattle.base_faults.specs.declared.fault.FaultKind.TheVariants as kind
 
 -- the last of some replies, which follow another
 abbrev pub final_reply : Reply → List Reply → Reply

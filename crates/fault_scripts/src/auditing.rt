@@ -5,10 +5,11 @@ ghost use Rattle.fault_scripts.specs.Faults.{AreFaults};
 ghost use Rattle.fault_scripts.specs.Loops.{IsWhole, IsTableInOrder, IsSortedTable};
 ghost use Rattle.fault_scripts.specs.Outcomes.{AreAllFaults, IsOutcome, DecidesSafety, AreShown};
 
-use crate::fault::{Fault, FaultKind, FaultList};
+use crate::fault::{FaultList, plain_fault};
 use crate::frames::{Judge, judge_all};
 use crate::outcome::Outcome;
 use crate::table::GatheredRows;
+use base_faults::FaultKind;
 use cert_table::Certificate;
 use checker::Policy;
 use finder::Survey;
@@ -28,7 +29,7 @@ fn entry_fault(alloc: Global, base: &Base, policy: &Policy) -> Result<Option<Fau
         Sought::Found(_) => return Ok(None),
     };
     let mut faults = Vec::new(alloc);
-    faults.push(Fault::plain(alloc, kind, entry, &[])?)?;
+    faults.push(plain_fault(alloc, kind, entry, &[])?)?;
     Ok(Some(FaultList::of(faults)))
 }
 

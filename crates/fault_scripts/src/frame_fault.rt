@@ -4,8 +4,9 @@ ghost use Rattle.abstract_paint.specs.Start.{start_of};
 ghost use Rattle.fault_scripts.specs.declared.frame_fault.FrameFault.TheVariants as wrong;
 ghost use Rattle.fault_scripts.specs.Loops.{fault_of, over_price, way_fault, is_far, return_fault};
 
-use crate::fault::{Fault, FaultKind};
+use crate::fault::{key_fault, plain_fault, price_fault, touch_fault};
 use abstract_paint::{Painted, Start, start_at};
+use base_faults::{Fault, FaultKind};
 use frame_records::{Destination, Frame, Pence};
 use page_ids::{FrameId, Key, Way};
 use std::alloc::{AllocError, Global};
@@ -31,15 +32,15 @@ impl FrameFault {
         ensures { IfOk result (λ fault. fault ≡ fault_of frame keys.now self.now) }
     {
         match self {
-            FrameFault::Price(price) => Fault::price(alloc, frame, keys, *price),
-            FrameFault::Touches(start) => Fault::touches(alloc, frame, keys, *start),
+            FrameFault::Price(price) => price_fault(alloc, frame, keys, *price),
+            FrameFault::Touches(start) => touch_fault(alloc, frame, keys, *start),
             FrameFault::Missing(way, to) => {
-                Fault::sought(alloc, FaultKind::Missing, frame, keys, way.key(), *to)
+                key_fault(alloc, FaultKind::Missing, frame, keys, way.key(), *to)
             }
             FrameFault::Closed(way, to) => {
-                Fault::sought(alloc, FaultKind::Closed, frame, keys, way.key(), *to)
+                key_fault(alloc, FaultKind::Closed, frame, keys, way.key(), *to)
             }
-            FrameFault::NoReturn => Fault::plain(alloc, FaultKind::NoReturn, frame, keys),
+            FrameFault::NoReturn => plain_fault(alloc, FaultKind::NoReturn, frame, keys),
         }
     }
 }

@@ -27,7 +27,8 @@ mod reporter;
 mod table;
 
 pub use auditing::{audit, audit_surveyed, faults, faults_surveyed};
-pub use fault::{Fault, FaultKind, FaultList};
+pub use base_faults::{Fault, FaultKind};
+pub use fault::FaultList;
 pub use laws::{faults_are_due, faults_are_one, faults_are_shown, none_is_safe};
 pub use outcome::Outcome;
 pub use replaying::{Replayed, replay};

@@ -5,9 +5,9 @@ ghost use Rattle.finder.specs.Finds.{ScriptsExtend, script};
 ghost use Rattle.finder.specs.Survey.{IsFrameAt};
 ghost use Rattle.fault_scripts.specs.Loops.{fault_of, HasScript, CanLead, IsReporting};
 
-use crate::fault::Fault;
 use crate::frame_fault::{FrameFault, over_price, return_fault, touch_start, way_fault};
 use abstract_paint::Painted;
+use base_faults::Fault;
 use checker::Policy;
 use finder::{Found, Survey, script_to};
 use frame_records::Frame;

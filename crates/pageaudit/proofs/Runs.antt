@@ -21,7 +21,7 @@ use Rattle.pageaudit.specs.AuditRun.{IsAuditRun, IsAuditIntoRun, IsSplitWritten}
 use Rattle.pageaudit.specs.ListRun.{IsListRun, status_of_entry}
 use Rattle.pageaudit.specs.MapRun.{IsMapRun, IsMapWritten}
 use Rattle.pageaudit.specs.declared.show_run.Target.{Target}
-use Rattle.pageaudit.specs.declared.show_run.Form.{Form}
+use Rattle.screen_forms.specs.declared.forms.Form.{Form}
 use Rattle.pageaudit.specs.declared.show_run.ShowStatus.{ShowStatus}
 use Rattle.pageaudit.specs.declared.show_run.ShowStatus.TheVariants.{Shown}
 use Rattle.pageaudit.specs.declared.show_run.ShowAnswer.{ShowAnswer}

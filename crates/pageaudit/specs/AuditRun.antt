@@ -9,7 +9,6 @@ use Rattle.audit_report.specs.declared.run_fault.RunFault.{RunFault}
 use Rattle.audit_report.specs.ReportLines.{report_text, IsReport}
 use Rattle.audit_report.specs.Statuses.{status_of_outcome}
 use Rattle.audit_report.specs.declared.status.Status.{Status}
-use Rattle.audit_report.specs.declared.status.Status.TheVariants as status
 use Rattle.pageaudit.specs.Files.{Device, IsUntouched, IsTextWritten, IsBaseRun}
 
 -- `Written` holds of the base's outcome and the answer; a certificate's text is in the grammar with it

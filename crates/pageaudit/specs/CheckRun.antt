@@ -3,8 +3,6 @@ use Rattle.std.specs.Prelude.{ℕ, List, Result, Ok, Err}
 use Rattle.frame_records.specs.Bases.{BaseView}
 use Rattle.cert_table.specs.Table.{CertView}
 use Rattle.checker.specs.declared.policy.Policy.{Policy}
-use Rattle.checker.specs.declared.verdict.Verdict.{Verdict}
-use Rattle.checker.specs.declared.verdict.Verdict.TheVariants.{Cleared, Refused}
 use Rattle.checker.specs.Verdict.{verdict}
 use Rattle.checker.specs.Headline.{Headline}
 use Rattle.audit_report.specs.declared.run_fault.RunFault.{RunFault}
@@ -12,7 +10,6 @@ use Rattle.audit_report.specs.declared.run_fault.RunFault.TheVariants as run
 use Rattle.audit_report.specs.Lines.{verdict_text}
 use Rattle.audit_report.specs.Statuses.{status_of_verdict}
 use Rattle.audit_report.specs.declared.status.Status.{Status}
-use Rattle.audit_report.specs.declared.status.Status.TheVariants.{Clear, Faulty}
 use Rattle.pageaudit.specs.Files.{Device, IsUntouched, IsTextWritten, base_limit, cert_limit, WasRead, IsBaseOfFile, IsCertOfFile, IsBaseTextFault, IsCertTextFault, IsBaseBroken, IsCertBroken, IsReadWithin}
 
 -- both files were read to their ends and are right; the line of their verdict was written, and the answer is its status, or

@@ -1,5 +1,5 @@
 -- What runs of export do.
-use Rattle.std.specs.Prelude.{◌≡◌, List, Result, Ok, Err}
+use Rattle.std.specs.Prelude.{List, Result, Ok, Err}
 use Rattle.page_ids.specs.Ids.{Id}
 use Rattle.frame_records.specs.Bases.{BaseView}
 use Rattle.finder.specs.Survey.{SurveyView}

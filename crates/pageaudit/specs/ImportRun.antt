@@ -1,5 +1,5 @@
 -- What a run of import does.
-use Rattle.std.specs.Prelude.{◌≡◌, ◌<◌, ◌+◌, ◌++◌, ℕ, Bool, List, Option, Some, Result, Ok, Err, length}
+use Rattle.std.specs.Prelude.{◌≡◌, ◌<◌, ◌+◌, ◌++◌, ℕ, Bool, List, Option, Result, Ok, Err, length}
 use Rattle.std.specs.Io.KnownBytes.{IsAtEnd}
 use Rattle.devices.specs.Devices.{BrokeWithin}
 use Rattle.frame_records.specs.declared.limits.TheConstants.{MOST_LISTED}

@@ -1,8 +1,6 @@
 -- What a run of show does.
-use Rattle.std.specs.Prelude.{◌≡◌, ℕ, List, [], ◌∷◌, ◌++◌, Option, Some, None, Vec, Result, Ok, Err}
-use Rattle.std.specs.declared.alloc.Global.{Global}
+use Rattle.std.specs.Prelude.{◌≡◌, ℕ, List, [], ◌∷◌, ◌++◌, Option, Some, None, Result, Ok, Err}
 use Rattle.page_ids.specs.Ids.{Id, frame_text}
-use Rattle.page_ids.specs.declared.key.Key.{Key}
 use Rattle.frame_records.specs.declared.frame.Frame.{Frame}
 use Rattle.frame_records.specs.Bases.{BaseView, frame_at}
 use Rattle.frame_records.specs.Seek.{entry_of}
@@ -22,8 +20,8 @@ use Rattle.screen_forms.specs.Forms.{address}
 use Rattle.audit_report.specs.declared.run_fault.RunFault.{RunFault}
 use Rattle.pageaudit.specs.declared.show_run.Target.{Target}
 use Rattle.pageaudit.specs.declared.show_run.Target.TheVariants as target
-use Rattle.pageaudit.specs.declared.show_run.Form.{Form}
-use Rattle.pageaudit.specs.declared.show_run.Form.TheVariants as form
+use Rattle.screen_forms.specs.declared.forms.Form.{Form}
+use Rattle.screen_forms.specs.declared.forms.Form.TheVariants as form
 use Rattle.pageaudit.specs.declared.show_run.ShowStatus.{ShowStatus}
 use Rattle.pageaudit.specs.declared.show_run.ShowStatus.TheVariants.{Shown, EntryMissing, EntryClosed, Gone, NoFrame}
 use Rattle.pageaudit.specs.declared.show_run.ShowAnswer.{ShowAnswer}

@@ -67,7 +67,7 @@ pub use pages_run::{run_pages, status_of_pages};
 pub use screen_files::{
     Album, FileFrames, FileKind, Filed, Origin, ScreenFault, ScreenPlace, Settled, Twin,
 };
-pub use screen_forms::{FaultyLine, SavedForm, TextLineFault};
-pub use show_run::{Form, ShowStatus, Target, run_show, status_of_show};
+pub use screen_forms::{FaultyLine, Form, SavedForm, TextLineFault};
+pub use show_run::{ShowStatus, Target, run_show, status_of_show};
 pub use status::status_of;
 pub use walk_run::{read_keys, run_walk};

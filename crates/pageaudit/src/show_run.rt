@@ -13,7 +13,7 @@ use audit_report::{RunFault, Sink, Source};
 use frame_records::{Base, Groups};
 use frame_screens::{FrameList, NoScreen, frames_after, nearest, screen, way_to};
 use page_ids::{FrameId, Key, KeyList, PageNo};
-use screen_forms::push_address;
+use screen_forms::{Form, push_address};
 use screens::{Writing, push_ansi, push_picture, push_text, screen_looks};
 use std::alloc::{AllocError, Global};
 
@@ -26,21 +26,6 @@ pub enum Target {
     Frame(FrameId),
     /// What a caller sees who pressed these keys.
     Keys(KeyList),
-}
-
-/// How a screen is written.
-#[derive(Debug, Clone, Copy, PartialEq, Eq)]
-pub enum Form {
-    /// Characters, 24 lines.
-    Text,
-    /// The same in the colours of a terminal.
-    Ansi,
-    /// A picture.
-    Svg,
-    /// Its 960 codes.
-    Cells,
-    /// The address at which edit.tf shows it, and a line end.
-    Link,
 }
 
 /// The result of a run of show without a fault. If nothing was shown, nothing was written.

@@ -1,5 +1,5 @@
 -- The headline, of values, of texts and of files; and its other half.
-use Rattle.std.specs.Prelude.{◌≡◌, ◌≤◌, ℕ, false, List, [], Some, Result, Ok, Err}
+use Rattle.std.specs.Prelude.{◌≡◌, ◌≤◌, ℕ, false, List}
 use Rattle.std.specs.Io.KnownBytes.{Consumes, IsAtEnd}
 use Rattle.frame_records.specs.Bases.{BaseView}
 use Rattle.base_text.specs.Whole.{IsTextBase}

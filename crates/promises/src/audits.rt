@@ -4,7 +4,7 @@ ghost use Rattle.std.specs.Prelude.{◌≡◌, ◌↔◌, ℕ, List, [], Result,
 ghost use Rattle.frame_records.specs.Bases.{BaseView, AreApart};
 ghost use Rattle.checker.specs.declared.policy.Policy.{Policy as PolicyView};
 ghost use Rattle.checker.specs.Safe.{Safe};
-ghost use Rattle.fault_scripts.specs.declared.fault.Fault.{Fault};
+ghost use Rattle.base_faults.specs.declared.fault.Fault.{Fault};
 ghost use Rattle.fault_scripts.specs.Faults.{AreFaults};
 ghost use Rattle.fault_scripts.specs.Outcomes.{IsOutcome};
 ghost use Rattle.audit_report.specs.declared.run_fault.RunFault.{RunFault};

@@ -27,7 +27,7 @@ ghost use Rattle.screen_files.specs.Rows.{rows_of};
 ghost use Rattle.screen_forms.specs.Laws.{IsSavedScreen};
 ghost use Rattle.screen_files.specs.Laws.{rows_alone};
 ghost use Rattle.base_pages.specs.Pages.{IsPagesRun};
-ghost use Rattle.pageaudit.specs.declared.show_run.Form.TheVariants.{Ansi};
+ghost use Rattle.screen_forms.specs.declared.forms.Form.TheVariants.{Ansi};
 ghost use Rattle.pageaudit.specs.ShowRun.{screen_text};
 ghost use Rattle.ansi_line.specs.AnsiReading.{below_rows, ansi_read};
 ghost use Rattle.ansi_line.specs.Laws.{AreScreenRows, SameToTheEye, seen_cells};

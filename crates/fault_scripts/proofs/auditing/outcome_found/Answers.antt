@@ -1,6 +1,6 @@
 use Rattle.std.proofs.Common.{List, [], ◌≢◌, sym, subst}
 use Rattle.frame_records.specs.Bases.{BaseView}
-use Rattle.fault_scripts.specs.declared.fault.Fault.{Fault}
+use Rattle.base_faults.specs.declared.fault.Fault.{Fault}
 use Rattle.fault_scripts.specs.Faults.{AreFaultsAlong}
 use Rattle.fault_scripts.specs.Loops.{IsSortedTable}
 use Rattle.fault_scripts.proofs.Audited.{none_reported, some_reported, reported_along, in_order_table, certified_by}

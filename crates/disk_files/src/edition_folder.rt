@@ -4,7 +4,7 @@
 
 ghost use Rattle.std.specs.Prelude.{◌≡◌, true, None};
 
-use crate::named_files::{Unfinished, unread, unwritten};
+use crate::opening::{Unfinished, unread, unwritten};
 use audit_report::{FromRead, SourceFault, read_whole};
 use base_text::MOST_TEXT;
 use editions::{EditionFile, EditionFolder, StoreFault};

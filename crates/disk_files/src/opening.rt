@@ -1,6 +1,5 @@
-//! Files that are opened by their names, and what is printed if a command ends without its work done.
+//! Files that are opened by their names, and why a command ends without its work done.
 
-use crate::fail;
 use audit_report::{IntoWrite, RunFault};
 use std::io::Read;
 use std::rt::Files;
@@ -134,8 +133,8 @@ fn begins_certificate<F: Read>(file: &mut F) -> bool {
     }
 }
 
-// Whether a path names a certificate. What isn't a regular file can't be read again.
-fn is_certificate<R: Files>(rt: &R, path: &str) -> bool {
+/// Whether a path names a certificate. What isn't a regular file can't be read again.
+pub fn is_certificate<R: Files>(rt: &R, path: &str) -> bool {
     match fs::metadata(rt, path) {
         Ok(there) if there.is_file() => match fs::open(rt, path) {
             Ok(file) => {
@@ -145,55 +144,5 @@ fn is_certificate<R: Files>(rt: &R, path: &str) -> bool {
             Err(_) => false,
         },
         _ => false,
-    }
-}
-
-// Says what helps with a base's text that is refused.
-fn print_help<R: Files + Eprint>(rt: &R, path: &str) {
-    let _ = if is_certificate(rt, path) {
-        eprintln!(rt; "{path} is a certificate: pageaudit check BASE {path}")
-    } else {
-        eprintln!(rt; "pageaudit lint {path} says where")
-    };
-}
-
-/// Says why a command ends without its work done, if somebody is to know it; the exit status. A base's text that is refused has its
-/// fault in one line, and another says what helps.
-pub fn report<R: Files + Eprint + AllocGlobal>(rt: &R, path: &str, unfinished: &Unfinished) -> u8 {
-    match unfinished {
-        Unfinished::Unread(reason) | Unfinished::Unwritten(reason) => {
-            let _ = eprintln!(rt; "{path}: {reason}");
-            3
-        }
-        Unfinished::Unwanted => 3,
-        Unfinished::Fault(fault) => {
-            let status = fail(rt, fault);
-            if let RunFault::Base(_) = fault
-                && status == 3
-            {
-                print_help(rt, path);
-            }
-            status
-        }
-    }
-}
-
-/// The same of a command that reads a base and writes a file, if one is named: that is the file of a fault of the output.
-pub fn report_written<R: Files + Eprint + AllocGlobal>(
-    rt: &R,
-    base: &str,
-    out: Option<&str>,
-    unfinished: &Unfinished,
-) -> u8 {
-    let Some(out) = out else {
-        return report(rt, base, unfinished);
-    };
-    match unfinished {
-        Unfinished::Unwritten(_) => report(rt, out, unfinished),
-        Unfinished::Fault(RunFault::Write(wrote)) => {
-            let _ = eprintln!(rt; "{out}: write failed after {wrote} bytes");
-            3
-        }
-        _ => report(rt, base, unfinished),
     }
 }

@@ -2,7 +2,7 @@
 //! certificate or screen is never lost to a failed run. What isn't a regular file, as a pipe, is written directly, and the file of
 //! standard output or standard error through that stream, whose other text is kept.
 
-use crate::named_files::{Unfinished, unwritten};
+use crate::opening::{Unfinished, unwritten};
 use audit_report::RunFault;
 use std::fs::{File, Metadata, OpenOptions};
 use std::os::unix::fs::MetadataExt;
