@@ -1,5 +1,5 @@
 -- The words of a fault of a base's text.
-use Rattle.std.specs.Prelude.{ℕ, ℤ, Bool, true, false, ◌==◌, if◌then◌else◌, List, [], ◌++◌, codes, Option, Some, None}
+use Rattle.std.specs.Prelude.{ℕ, Bool, true, false, ◌==◌, if◌then◌else◌, List, [], ◌++◌, codes, Option, Some, None}
 use Rattle.page_ids.specs.Ids.{Id}
 use Rattle.base_text.specs.declared.keys.Field.{Field}
 use Rattle.base_text.specs.declared.keys.Field.TheVariants as field

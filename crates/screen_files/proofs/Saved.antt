@@ -1,5 +1,5 @@
 -- What a file gives is a screen.
-use Rattle.std.proofs.Common.{◌≡◌, ◌∙◌, ◌<◌, ◌≤◌, ◌==◌, ◌&&◌, ℕ, zero, suc, Bool, true, false, not, List, [], ◌∷◌, ◌++◌, Option, Some, None, refl, subst, drop, length, take, map, replicate, nat_lt, arith}
+use Rattle.std.proofs.Common.{◌≡◌, ◌∙◌, ◌<◌, ◌≤◌, ◌==◌, ◌&&◌, ℕ, zero, suc, Bool, true, false, not, List, [], ◌∷◌, ◌++◌, Option, Some, None, refl, subst, drop, length, take, map, replicate, arith}
 use Rattle.std.specs.Prelude.{option_map}
 use Rattle.std.proofs.lemmas.Bool.Decides.{nat_tests}
 use Rattle.std.proofs.lemmas.List.{length-append, length-drop, length-map, length-replicate, length-take-le}
@@ -13,7 +13,6 @@ use Rattle.terminal_codes.proofs.Stores.{screen_of_run}
 use Rattle.screen_files.specs.declared.capture.Reel.{Reel}
 use Rattle.screen_files.specs.declared.capture.Shot.{Shot}
 use Rattle.screen_files.specs.Captures.{is_blank_screen, clears_screen, shot_at, shot_if_shown, shown_first, shown_since, unwound, offset_in, reel_after, cleared_by, cleared, wound, start_offset, shown_end, shown_screens, end_if_none, capture_screens}
-use Rattle.screen_forms.specs.Bits.{stored_code}
 use Rattle.screen_forms.specs.Laws.{IsSavedScreen}
 use Rattle.screen_forms.proofs.PagesAre.{stored_is_code}
 use Rattle.screen_files.specs.Codes.{row_code, blank_codes, codes_of_rows, has_all_rows, is_ep1, is_space_byte, between_blank, placed, rows_in, seven_bits}
