@@ -17,6 +17,21 @@ FUNCTION = re.compile(r'( *)(pub )?(?:pub\(crate\) )?(?:extern "C" )?fn (\w+)')
 CLAUSE = re.compile(r" *ensures (?:(\w+) )?\{ (.*)")
 WORD = re.compile(r'"(?:\\.|[^"\\])*"|//.*|\w+|\S')
 
+# A clause that leaves one answer, but for refused memory: an equation of the result, or of what a call leaves.
+EQUATION = re.compile(
+    r"\(?result(\.\w+)? ≡ |(IfOk|IfSome) result \(λ (?P<it>\w+)\. (view )?(?P=it)(\.\w+)? ≡ "
+    r"|(IfOk result \(λ \w+\. )?IfOk \w+ \(λ (?P<of>\w+)\. [\w. ]+ ≡ Some \(\w+ (?P=of)\)"
+    r"|(SomeIff|MatchResult) result |(OnOk result \()?(string_bytes )?\w+\.new(\.\w+)* ≡ "
+    r"|(data_seen|seen|option_\w+( \w+| \(λ .*?\))?) result ≡ |slice_get \S+ \w+ ≡ Some result|⟦.*⟧\.\w+ result ≡ "
+)
+
+# Definitions that say the same of what a clause gives them.
+ANSWER = re.compile(
+    r"\b(AddsPrinted|AreFramesFiled|AreKeysRead|AreOrderedFaults|AreWholeFaults|Gives|HasRead|IsAskedShow"
+    r"|IsAuditIntoRun|IsAuditRun|IsBaseText|IsBuilt|IsCall|IsCheckRun|IsCopied|IsExportRead|IsFilePrepared|IsKeysAnswer"
+    r"|IsMap|IsOnItsWay|IsPagesRun|IsPrepared|IsRead|IsShowCall|IsViewed|IsWalkRun|Reads|TakesBytes|Turns)\b"
+)
+
 
 @dataclass
 class Function:
@@ -36,6 +51,10 @@ class Function:
     @property
     def title(self) -> str:
         return f"{self.owner}::{self.name}" if self.owner else self.name
+
+    def has_one_answer(self) -> bool:
+        """Whether a clause of it leaves one answer."""
+        return any(EQUATION.match(text) or ANSWER.search(text) for _, text in self.clauses)
 
     def is_law(self) -> bool:
         """Whether it does nothing, but for calling other laws."""
@@ -132,6 +151,10 @@ class Edit:
         """The functions that it changes, None for what is outside of all."""
         return [place for change in self.changes for place in change.places()]
 
+    def leaves_one_answer(self) -> bool:
+        """Whether all that it changes are functions of which a clause leaves one answer."""
+        return all(one and one.has_one_answer() for one in self.functions())
+
     def applied(self, texts: Mapping[Path, str]) -> dict[Path, str] | None:
         """The texts of files with the change made too, or None if an old text isn't there once."""
         made = dict(texts)
@@ -162,3 +185,8 @@ def edit_of(path: Path) -> Edit:
 def edits(crate: str, folder: str = "must-fail") -> list[Edit]:
     """The edits of a folder of a crate."""
     return [edit_of(path) for path in sorted((CRATES / crate / folder).glob("*.edit"))]
+
+
+def plain_edits(crate: str, *, of_gate: bool) -> list[Edit]:
+    """The edits in a crate's plain-edits/ that each gate tries, or the others."""
+    return [edit for edit in edits(crate, "plain-edits") if edit.leaves_one_answer() is not of_gate]

@@ -11,7 +11,7 @@ from collections.abc import Iterable, Iterator
 from pathlib import Path
 from typing import Any
 
-from harness.edits import Edit, edits
+from harness.edits import Edit, plain_edits
 from harness.places import TOP
 from harness.running import run
 
@@ -50,10 +50,10 @@ def keep(crate: str, refused: Iterable[Edit]) -> None:
 
 def tried(crate: str) -> tuple[list[tuple[str, str, str]], list[str]]:
     """The plain edits of a crate that were refused as they are now, each with the day and the commit; and those that
-    weren't.
+    weren't. Those that each gate tries are left out.
     """
     known, found, others = record(), list[tuple[str, str, str]](), list[str]()
-    for edit in edits(crate, "plain-edits"):
+    for edit in plain_edits(crate, of_gate=False):
         day, commit, *texts = known.get(f"{crate}/{edit.name}", ["", ""])
         if texts == sums(edit):
             found.append((edit.name, day, commit))
