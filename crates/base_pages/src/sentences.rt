@@ -1,6 +1,6 @@
 //! What lint says of the faults of a frame.
 
-ghost use Rattle.std.specs.Prelude.{◌≡◌, ◌++◌, ◌∷◌, [], OnOk};
+ghost use Rattle.std.specs.Prelude.{◌≡◌, ◌++◌, OnOk};
 ghost use Rattle.screens.specs.Svg.{markup};
 ghost use Rattle.screens.specs.declared.writing.Writing.TheVariants.{Markup};
 ghost use Rattle.screens.specs.Writing.{written};

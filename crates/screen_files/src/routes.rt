@@ -1,6 +1,6 @@
 //! Routes that are guessed from the numbers of pages.
 
-ghost use Rattle.std.specs.Prelude.{◌≡◌, ◌++◌, ◌∷◌, [], ◌+◌, ◌<◌, ◌||◌, IfOk, OnOk};
+ghost use Rattle.std.specs.Prelude.{◌≡◌, ◌++◌, ◌+◌, ◌<◌, ◌||◌, IfOk, OnOk};
 ghost use Rattle.page_ids.specs.Ids.{Id, id_eq};
 ghost use Rattle.screen_files.specs.Loops as loops;
 ghost use Rattle.screen_files.specs.Routes as spec;

@@ -3,7 +3,7 @@
 ghost use Rattle.std.specs.Prelude.{◌≡◌};
 ghost use Rattle.screens.specs.Text as spec;
 
-use crate::look::{Glyph, Height, Look, Shown};
+use crate::look::{Glyph, Height, Look};
 
 // The character of what a cell holds.
 fn glyph_char(glyph: &Glyph) -> char
@@ -19,11 +19,11 @@ fn glyph_char(glyph: &Glyph) -> char
 pub fn seen_char(look: &Look) -> char
     ensures { result ≡ spec.seen_char look.now }
 {
-    match look.shown() {
-        Shown::Ground(_) => ' ',
-        Shown::All(look) => match look.height {
-            Height::Lower => ' ',
-            Height::Single | Height::Upper => glyph_char(&look.glyph),
-        },
+    if look.concealed {
+        return ' ';
+    }
+    match look.height {
+        Height::Lower => ' ',
+        Height::Single | Height::Upper => glyph_char(&look.glyph),
     }
 }

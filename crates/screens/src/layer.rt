@@ -1,9 +1,10 @@
 //! What is drawn of cells, layer by layer.
 
 ghost use Rattle.std.specs.Prelude.{◌≡◌};
+ghost use Rattle.screens.specs.declared.layer.Layer.TheVariants.{Mosaics, Letters};
 ghost use Rattle.screens.specs.Svg as spec;
 
-use crate::look::{Colour, Glyph, Height, Look, Shown};
+use crate::look::{Colour, Glyph, Height, Look};
 
 /// A layer of a picture; each is over the one before.
 #[derive(Debug, Clone, Copy, PartialEq, Eq)]
@@ -23,28 +24,40 @@ pub struct Ink {
 }
 
 fn letter_ink(look: &Look) -> Option<Ink>
-    ensures { result ≡ spec.letter_ink look.now look.now.glyph }
+    ensures { result ≡ spec.ink_of Letters look.now }
 {
     match (&look.glyph, look.height) {
         (Glyph::Block(_), _) | (_, Height::Lower) => None,
-        (Glyph::Char(_), height) => Some(Ink {
-            colour: look.foreground,
-            flash: look.flash,
-            tall: height == Height::Upper,
-        }),
+        (Glyph::Char(c), height) => {
+            if look.concealed || *c == ' ' {
+                None
+            } else {
+                Some(Ink {
+                    colour: look.foreground,
+                    flash: look.flash,
+                    tall: height == Height::Upper,
+                })
+            }
+        }
     }
 }
 
 fn mosaic_ink(look: &Look) -> Option<Ink>
-    ensures { result ≡ spec.mosaic_ink look.now look.now.glyph }
+    ensures { result ≡ spec.ink_of Mosaics look.now }
 {
     match &look.glyph {
         Glyph::Char(_) => None,
-        Glyph::Block(_) => Some(Ink {
-            colour: look.foreground,
-            flash: look.flash,
-            tall: false,
-        }),
+        Glyph::Block(_) => {
+            if look.concealed {
+                None
+            } else {
+                Some(Ink {
+                    colour: look.foreground,
+                    flash: look.flash,
+                    tall: false,
+                })
+            }
+        }
     }
 }
 
@@ -66,12 +79,10 @@ impl Layer {
     pub fn ink(self, look: &Look) -> Option<Ink>
         ensures { result ≡ spec.ink_of self look.now }
     {
-        match (self, look.shown()) {
-            (Layer::Grounds, Shown::Ground(colour)) => ground_ink(colour),
-            (Layer::Grounds, Shown::All(look)) => ground_ink(look.background),
-            (_, Shown::Ground(_)) => None,
-            (Layer::Mosaics, Shown::All(look)) => mosaic_ink(&look),
-            (Layer::Letters, Shown::All(look)) => letter_ink(&look),
+        match self {
+            Layer::Grounds => ground_ink(look.background),
+            Layer::Mosaics => mosaic_ink(look),
+            Layer::Letters => letter_ink(look),
         }
     }
 

@@ -1,6 +1,7 @@
 //! A screen of 24 rows.
 
-ghost use Rattle.std.specs.Prelude.{◌≡◌, ◌<◌, ◌+◌, length, map};
+ghost use Rattle.std.specs.Prelude.{◌≡◌, ◌<◌, ◌+◌, ◌==◌, length, map};
+ghost use Rattle.std.specs.List.{list_all};
 ghost use Rattle.screens.specs.Looks as spec;
 
 use crate::look::Look;
@@ -62,12 +63,25 @@ fn has_double(cells: &[u8; 960], row: usize) -> bool
     can_stretch(row) && codes.contains(&0x8d)
 }
 
-// Writes the looks of a row by its own codes.
+// Whether codes are spaces.
+fn are_spaces(codes: &[u8]) -> bool
+    ensures { result ≡ list_all (λ c. c == 0x20) codes.now }
+{
+    codes.iter().all(|code| *code == b' ')
+}
+
+// Writes the looks of a row by its own codes. Most rows are blank.
+#[tactic(auto, using(crate::proofs::Rows::blank_row))]
 fn put_own(cells: &[u8; 960], row: usize, looks: &mut [Look; 40])
     requires { row < 24 }
     ensures { looks.new ≡ spec.own_looks cells.now row }
 {
-    put_row(can_stretch(row), row_codes(cells, row), looks);
+    let codes = row_codes(cells, row);
+    if are_spaces(codes) {
+        *looks = BLANK_ROW;
+    } else {
+        put_row(can_stretch(row), codes, looks);
+    }
 }
 
 // Makes looks those below them.

@@ -48,12 +48,21 @@ pub fn starts_char(byte: u8) -> bool
     byte < 0x80 || byte >= 0xC0
 }
 
-// How many bytes at the front go on with a character.
+// How many bytes at the front go on with a character: most often none.
 fn tail_len(bytes: &[u8]) -> usize
     ensures len { result ≡ prefix_len spec.string_goes_on bytes.now }
     ensures within { result ≤ length bytes.now }
 {
-    bytes.iter().take_while(|byte| !starts_char(**byte)).count()
+    match bytes {
+        [] => 0,
+        [first, ..] => {
+            if starts_char(*first) {
+                0
+            } else {
+                bytes.iter().take_while(|byte| !starts_char(**byte)).count()
+            }
+        }
+    }
 }
 
 #[tactic(auto, unfolding(crate::specs::Strings::after_char))]
