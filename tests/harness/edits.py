@@ -56,6 +56,11 @@ class Function:
         """Whether a clause of it leaves one answer."""
         return any(EQUATION.match(text) or ANSWER.search(text) for _, text in self.clauses)
 
+    def is_exported(self, names: set[str]) -> bool:
+        """Whether it is one of the names that its crate exports, or a function of one of these."""
+        is_open = self.is_pub or bool(self.trait)
+        return is_open and not names.isdisjoint({self.owner or self.name, self.trait})
+
     def is_law(self) -> bool:
         """Whether it does nothing, but for calling other laws."""
         return self.is_empty or self.module.endswith("laws")
@@ -66,6 +71,13 @@ class Function:
         if self.owner:
             return f"{self.owner}+{self.trait}::{self.name}" if self.trait else self.title
         return self.name if self.module == "lib" else f"{self.module}::{self.name}"
+
+
+def exported(crate: str) -> set[str]:
+    """The names that a crate exports."""
+    text = (CRATES / crate / "src" / "lib.rt").read_text("utf-8")
+    groups = re.findall(r"^pub use \w+(?:::\w+)*::(?:\{([^}]*)\}|(\w+));", text, re.M)
+    return {name.strip() for group in groups for name in (group[0] or group[1]).split(",")} - {""}
 
 
 def doc_above(lines: list[str]) -> str:
@@ -188,5 +200,15 @@ def edits(crate: str, folder: str = "must-fail") -> list[Edit]:
 
 
 def plain_edits(crate: str, *, of_gate: bool) -> list[Edit]:
-    """The edits in a crate's plain-edits/ that each gate tries, or the others."""
-    return [edit for edit in edits(crate, "plain-edits") if edit.leaves_one_answer() is not of_gate]
+    """The edits in a crate's plain-edits/ that each gate tries, or the others. It tries one for each exported function
+    whose clause leaves more than one answer. A clause of another function is only a step of a proof: if it is too weak,
+    that of an exported one fails.
+    """
+    every, tried, paths = edits(crate, "plain-edits"), list[Edit](), set[str]()
+    names = exported(crate) if every else set[str]()
+    for edit in every:
+        is_promised = any(one is None or one.is_exported(names) for one in edit.functions())
+        if is_promised and not edit.leaves_one_answer() and not paths.issuperset(edit.paths() or [edit.name]):
+            tried.append(edit)
+            paths.update(edit.paths())
+    return [edit for edit in every if (edit in tried) is of_gate]

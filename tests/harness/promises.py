@@ -13,7 +13,7 @@ from collections.abc import Iterable, Iterator
 from functools import cache
 from pathlib import Path
 
-from harness.edits import CRATES, Function, functions
+from harness.edits import CRATES, Function, exported, functions
 
 # The crate that states each promise again, and the calls for C, which it can't use.
 CLIENT = "promises"
@@ -25,13 +25,6 @@ USE = re.compile(r"^ *(?:pub |ghost )?use Rattle\.([\w.]+?)(?:\.\{([^}]*)\}| as 
 # A name, and one that is taken from it; or an operator.
 WORD = re.compile(r"(?<![\w.])([^\W\d][\w'-]*)(?:\.([^\W\d][\w'-]*))?|([^\w\s(){}.,;]+)")
 GHOST = re.compile(r"\bghost \w+(?: =|:) \{(.*?)\}[;,]\n", re.S)
-
-
-def exported(crate: str) -> set[str]:
-    """The names that a crate exports."""
-    text = (CRATES / crate / "src" / "lib.rt").read_text("utf-8")
-    groups = re.findall(r"^pub use \w+(?:::\w+)*::(?:\{([^}]*)\}|(\w+));", text, re.M)
-    return {name.strip() for group in groups for name in (group[0] or group[1]).split(",")} - {""}
 
 
 def clauses(path: Path, function: Function) -> str:
@@ -49,8 +42,7 @@ def said(crate: str) -> Iterator[tuple[Path, str, bool]]:
         text = path.read_text("utf-8")
         traits = set(re.findall(r"^pub trait (\w+)", text, re.M))
         for function in functions(path):
-            is_open = function.is_pub or function.trait or function.owner in traits
-            if is_client or is_open and {function.owner or function.name, function.trait} & names:
+            if is_client or function.is_exported(names) or function.owner in traits & names:
                 yield path, clauses(path, function), True
         for item in re.split(r"^(?=(?:pub )?(?:struct|enum|trait|impl)\b)", text, flags=re.M):
             is_exported = not names.isdisjoint(re.findall(r"\w+", item.partition("\n")[0]))
