@@ -200,15 +200,15 @@ def edits(crate: str, folder: str = "must-fail") -> list[Edit]:
 
 
 def plain_edits(crate: str, *, of_gate: bool) -> list[Edit]:
-    """The edits in a crate's plain-edits/ that each gate tries, or the others. It tries one for each exported function
+    """The edits in a crate's plain-edits/ that each gate tries, or the others. It tries those of an exported function
     whose clause leaves more than one answer. A clause of another function is only a step of a proof: if it is too weak,
     that of an exported one fails.
     """
-    every, tried, paths = edits(crate, "plain-edits"), list[Edit](), set[str]()
+    every = edits(crate, "plain-edits")
     names = exported(crate) if every else set[str]()
-    for edit in every:
+
+    def is_of_gate(edit: Edit) -> bool:
         is_promised = any(one is None or one.is_exported(names) for one in edit.functions())
-        if is_promised and not edit.leaves_one_answer() and not paths.issuperset(edit.paths() or [edit.name]):
-            tried.append(edit)
-            paths.update(edit.paths())
-    return [edit for edit in every if (edit in tried) is of_gate]
+        return is_promised and not edit.leaves_one_answer()
+
+    return [edit for edit in every if is_of_gate(edit) is of_gate]
