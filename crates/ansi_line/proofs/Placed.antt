@@ -1,5 +1,5 @@
 -- A screen of a call, read as a terminal reads.
-use Rattle.std.proofs.Common.{◌≡◌, ℕ, ◌+◌, ◌-◌, ◌*◌, ◌/◌, ◌%◌, ◌^◌, ◌<◌, ◌≤◌, arith, refl, ap, ◌∙◌, true, false, List, [], ◌∷◌, ◌++◌, ◌==◌, nat_le, map, length, min, codes, decimal, append_assoc, length-append}
+use Rattle.std.proofs.Common.{◌≡◌, ℕ, ◌+◌, ◌-◌, ◌*◌, ◌/◌, ◌%◌, ◌^◌, ◌<◌, ◌≤◌, arith, refl, ap, ◌∙◌, Bool, true, false, List, [], ◌∷◌, ◌++◌, ◌==◌, nat_le, map, length, min, codes, decimal, append_assoc, length-append}
 use Rattle.std.specs.Prelude as P
 use Rattle.std.specs.List.{list_all}
 use Rattle.std.specs.Fmt.{digits}
@@ -10,13 +10,14 @@ use Rattle.screens.specs.declared.look.Look.{Look}
 use Rattle.screens.specs.Looks.{looks}
 use Rattle.screens.specs.Ansi.{unset, cell_bytes, pen_after, cells_bytes, ansi}
 use Rattle.screens.specs.declared.ansi.Pen.{Pen}
+use Rattle.screens.proofs.Safe.{all_append}
 use Rattle.screens.proofs.Shows.{text_is_its_lines}
-use Rattle.ansi_line.specs.AnsiLines.{row_place, LinePlace, first_place, lines_placed, screen_bytes}
+use Rattle.ansi_line.specs.AnsiLines.{erased, row_place, LinePlace, first_place, lines_placed, screen_bytes}
 use Rattle.ansi_line.specs.AnsiReading.{Cell, Rendition, default, Mode, Characters, Numbers, AnsiRead, next_row, read_on, below_rows, ansi_read}
 use Rattle.ansi_line.specs.Laws.{seen_cell, seen_cells, LeavesNothingSet, ScreenShows}
 use Rattle.ansi_line.proofs.Marks.{OfTables}
 use Rattle.ansi_line.proofs.Shown.{in_row, both, row_chars, reads_row, AllOfTables}
-use Rattle.ansi_line.proofs.ReadBack.{Spells, spells_both, is_inside, low_spells, low_number, row_bytes, line_of_row, spells_row, reads_after, looks_of_tables}
+use Rattle.ansi_line.proofs.ReadBack.{Spells, spells_both, is_inside, is_low, low_spells, low_number, row_bytes, line_of_row, spells_row, reads_after, looks_of_tables}
 
 -- The bytes.
 
@@ -81,11 +82,18 @@ abbrev rows_chars : ℕ → List (List Look) → List ℕ
 rows_chars n [] = []
 rows_chars n (row ∷ rows) = row_place n ++ row_chars unset row ++ rows_chars (n + 1) rows
 
+low_erased : (is_last : Bool) → list_all is_low (erased is_last) ≡ true
+low_erased true = refl
+low_erased false = refl
+
+low_place : (n : ℕ) → list_all is_low (row_place n) ≡ true
+low_place n = all_append is_low (codes "\u{1b}[" ++ decimal n ++ codes ";1H") (erased (n == 24)) (low_number (codes "\u{1b}[") n (codes ";1H") refl refl) (low_erased (n == 24))
+
 spells_rows : (n : ℕ) (rows : List (List Look)) → AllOfTables rows → Spells (rows_chars n rows) (rows_bytes n rows)
 spells_rows n [] h = (low_spells [] refl).spells
 spells_rows n (row ∷ rows) h =
     spells_both (row_place n ++ row_chars unset row) (rows_chars (n + 1) rows) (row_place n ++ row_bytes unset row) (rows_bytes (n + 1) rows)
-    (spells_both (row_place n) (row_chars unset row) (row_place n) (row_bytes unset row) (low_spells (row_place n) (low_number (codes "\u{1b}[") n (codes ";1H") refl refl)).spells (spells_row unset row h.0).spells)
+    (spells_both (row_place n) (row_chars unset row) (row_place n) (row_bytes unset row) (low_spells (row_place n) (low_place n)).spells (spells_row unset row h.0).spells)
     (spells_rows (n + 1) rows h.1)
 
 -- Reading.
@@ -108,6 +116,10 @@ reads_number r n lt = decimal_by_steps_wide (λ (k : ℕ) (ds : List ℕ). read_
   more : (k : ℕ) (ds : List ℕ) → 10 ≤ k → read_on (numbers r [] 0) ds ≡ numbers r [] (k / 10) → read_on (numbers r [] 0) (ds ++ ((48 + k % 10) ∷ [])) ≡ numbers r [] k
   more k ds big h = both (numbers r [] 0) (numbers r [] (k / 10)) (numbers r [] k) ds ((48 + k % 10) ∷ []) h (reads_digit r [] (k / 10) (k % 10) (omega arith) ∙ ap (numbers r []) (omega arith))
 
+reads_erased : (rows : List (List Cell)) (is_last : Bool) → read_on (below_rows rows) (erased is_last) ≡ below_rows rows
+reads_erased rows true = refl
+reads_erased rows false = refl
+
 -- the place of the next row
 reads_place : (rows : List (List Cell)) (row : List Cell) (n : ℕ) → n ≡ length rows + 2 → n < 10 ^ 64 → read_on (in_row rows row unset) (row_place n) ≡ below_rows (rows ++ row ∷ [])
 reads_place rows row n e lt =
@@ -115,7 +127,10 @@ reads_place rows row n e lt =
     let number : read_on r (codes "\u{1b}[" ++ decimal n) ≡ numbers r [] n = both r (numbers r [] 0) (numbers r [] n) (codes "\u{1b}[") (decimal n) refl (reads_number r n lt) in
     let here : (n == 1) ≡ false = grind (arith, nat_tests) in
     let next : (n == length rows + 2) ≡ true = grind (arith, nat_tests) in
-    both r (numbers r [] n) (below_rows (rows ++ row ∷ [])) (codes "\u{1b}[" ++ decimal n) (codes ";1H") number (rw (here, next) refl)
+    let above = below_rows (rows ++ row ∷ []) in
+    let place = codes "\u{1b}[" ++ decimal n ++ codes ";1H" in
+    let there : read_on r place ≡ above = both r (numbers r [] n) above (codes "\u{1b}[" ++ decimal n) (codes ";1H") number (rw (here, next) refl) in
+    both r above above place (erased (n == 24)) there (reads_erased (rows ++ row ∷ []) (n == 24))
 
 -- the place of the first row
 reads_first : (rows : List (List Cell)) (row : List Cell) → read_on (in_row rows row unset) (row_place 1) ≡ below_rows []

@@ -55,7 +55,7 @@ part_both xs ys bs ds h k = record { spells = spells_both xs ys bs ds h.spells k
 
 -- ASCII spells itself.
 
-abbrev is_low : ℕ → Bool
+abbrev pub is_low : ℕ → Bool
 is_low b = nat_lt b 128 && not (b == 10)
 
 pub low_spells : (bs : List ℕ) → list_all is_low bs ≡ true → SpellsPart bs bs

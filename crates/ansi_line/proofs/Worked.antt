@@ -64,3 +64,13 @@ places = refl
 pub left_out : (ansi_read (codes "A\u{1b}[3;1HA")).mode ≡ Refused
 unfolding chars is_utf8 encode_utf8
 left_out = refl
+
+-- what is right of the cursor or below it is erased
+pub erases : ansi_read (codes "A\u{1b}[KB\u{1b}[0J") ≡ record (below_rows []) { row = drawn (Letter 0x41) None None ∷ drawn (Letter 0x42) None None ∷ [] }
+unfolding chars is_utf8 encode_utf8
+erases = refl
+
+-- to erase what was written is refused
+pub erases_all : (ansi_read (codes "A\u{1b}[2J")).mode ≡ Refused
+unfolding chars is_utf8 encode_utf8
+erases_all = refl

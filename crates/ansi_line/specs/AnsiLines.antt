@@ -3,9 +3,14 @@ use Rattle.std.specs.Prelude.{ℕ, ◌+◌, ◌==◌, min, Bool, true, false, Li
 use Rattle.screens.specs.Looks.{looks}
 use Rattle.screens.specs.Ansi.{ansi}
 
--- the cursor to the first column of a row, the first of which is 1
+-- from the cursor on, the rest of the row is erased, and after the last row all that is below it too
+abbrev pub erased : (is_last : Bool) → List ℕ
+erased true = codes "\u{1b}[J"
+erased false = codes "\u{1b}[K"
+
+-- the cursor to the first column of a row, the first of which is 1 and the last 24, and what is there erased
 abbrev pub row_place : ℕ → List ℕ
-row_place n = codes "\u{1b}[" ++ decimal n ++ codes ";1H"
+row_place n = codes "\u{1b}[" ++ decimal n ++ codes ";1H" ++ erased (n == 24)
 
 -- the row of the next byte, a count that stops at 255, and whether this is the first of its line
 pub record LinePlace : Type 0 where

@@ -1,6 +1,6 @@
--- How a terminal with colours reads a text: characters in UTF-8, line ends, and the control sequences SGR and CUP. It knows nothing of who
--- writes it, and refuses what it doesn't know.
-use Rattle.std.specs.Prelude.{ℕ, Bool, true, false, List, [], ◌∷◌, ◌++◌, Option, Some, None, length, ◌+◌, ◌-◌, ◌*◌, ◌==◌, ◌&&◌, nat_le, if◌then◌else◌}
+-- How a terminal with colours reads a text: characters in UTF-8, line ends, and the control sequences SGR, CUP, EL and ED. It knows nothing of
+-- who writes it, and refuses what it doesn't know.
+use Rattle.std.specs.Prelude.{ℕ, Bool, true, false, List, [], ◌∷◌, ◌++◌, Option, Some, None, length, ◌+◌, ◌-◌, ◌*◌, ◌==◌, ◌&&◌, ◌||◌, nat_le, if◌then◌else◌}
 use Rattle.std.specs.Str.{chars, is_utf8}
 use Rattle.std.specs.Char.{is_ascii_digit, is_control}
 use Rattle.screens.specs.declared.look.Colour.{Colour}
@@ -134,11 +134,17 @@ abbrev pub at_place : AnsiRead → List ℕ → AnsiRead
 at_place r (n ∷ m ∷ []) = if m == 1 then at_row r n else ansi_refused r
 at_place r ns = ansi_refused r
 
--- a control sequence with these numbers: `ESC [ n ; .. m` or `ESC [ n ; m H`
+-- EL and ED with the number 0: no cell is kept here of what they erase, from the cursor to the end of its row or of the screen
+abbrev pub erased_on : AnsiRead → List ℕ → AnsiRead
+erased_on r (n ∷ []) = if n == 0 then record r { mode = Characters } else ansi_refused r
+erased_on r ns = ansi_refused r
+
+-- a control sequence with these numbers: `ESC [ n ; .. m`, `ESC [ n ; m H`, `ESC [ n J` or `ESC [ n K`
 abbrev pub ended_by : ℕ → AnsiRead → List ℕ → AnsiRead
 ended_by c r ns =
     if c == 0x6D then with_set r (select_all (Some r.set) ns)
     else if c == 0x48 then at_place r ns
+    else if c == 0x4A || c == 0x4B then erased_on r ns
     else ansi_refused r
 
 -- a number that isn't written is 0. Other control characters are refused

@@ -126,7 +126,7 @@ pub const SERVE: &str = concat!(
     "so does the caller who leaves or rings off.\n\n",
     "With --as ansi each answer is the whole screen, and Enter is #.\n\n",
     "Examples: socat tcp-listen:6502,fork,reuseaddr,backlog=128 exec:'pageaudit serve live'\n",
-    "          sh -c 'stty -icanon -echo; clear; pageaudit serve live --as ansi; stty sane'\n\n",
+    "          sh -c 'stty -icanon -echo; pageaudit serve live --as ansi; stty sane'\n\n",
     "Status: 0 a call that ended, 1 an edition that isn't cleared, 2 bad command line,\n",
     "        3 a file that is missing, refused or can't be read, or a line that fails,\n",
     "        4 out of memory",

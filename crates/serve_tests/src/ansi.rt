@@ -48,9 +48,12 @@ fn text_after(rt: &HostRuntime, bytes: &[u8]) -> Result<Vec<u8>, Fail> {
 #[test]
 fn each_row_has_its_place_and_no_line_end(rt: HostRuntime) -> Result<(), Fail> {
     let text = text_after(&rt, b"\x1bAHI")?;
-    same(text.starts_with(b"\x1b[1;1H\x1b[40m \x1b[31mHI"), true)?;
+    same(
+        text.starts_with(b"\x1b[1;1H\x1b[K\x1b[40m \x1b[31mHI"),
+        true,
+    )?;
     same(text.contains(&b'\n'), false)?;
-    let last = b"\x1b[0m\x1b[24;1H\x1b[40m                                        \x1b[0m";
+    let last = b"\x1b[0m\x1b[24;1H\x1b[J\x1b[40m                                        \x1b[0m";
     same(text.ends_with(last), true)
 }
 
