@@ -12,7 +12,7 @@ use Rattle.slip_fixes.specs.declared.bytes.Before.TheVariants.{Blank}
 use Rattle.slip_fixes.specs.Bytes.{after_last, key_before, key_of_value, piece_of}
 use Rattle.slip_fixes.specs.NearKeys.{near_field}
 use Rattle.slip_fixes.specs.TomlSlips.{new_escape, new_mark, new_word}
-use Rattle.slip_fixes.specs.Values.{is_unlisted, new_value, quoted_capital}
+use Rattle.slip_fixes.specs.Values.{is_unlisted, new_lead, new_value, quoted_capital}
 
 -- this text in the place of a span
 abbrev pub replaced : ℕ → ℕ → Option (List ℕ) → Option ReplacementView
@@ -61,6 +61,7 @@ about_text (Some key) = key
 
 abbrev pub fix_of : Code → List ℕ → Span → List ℕ → Option ReplacementView
 fix_of found.WrongKind text span key = value_fix key (piece_of text span.begin span.end) span.end
+fix_of found.Range text span key = replaced span.begin span.end (new_lead key (piece_of text span.begin span.end))
 fix_of found.UnknownKey text span key = key_fix key span
 fix_of found.BadFrame text span key = id_fix (piece_of text span.begin span.end) span.end
 fix_of found.RowCode text span key = code_fix (piece_of text span.begin span.end) span

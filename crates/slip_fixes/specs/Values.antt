@@ -1,7 +1,7 @@
 -- Values of another kind, and ids with a capital letter.
 use Rattle.std.specs.Prelude.{ℕ, Bool, false, not, ◌&&◌, ◌||◌, ◌==◌, ◌-◌, List, [], ◌∷◌, codes, length, nat_lt, Option, Some, None, if◌then◌else◌}
 use Rattle.std.specs.Char.{is_ascii_uppercase}
-use Rattle.std.specs.Str.{bytes_eq}
+use Rattle.std.specs.Str.{bytes_eq, str_eq_ignore_ascii_case}
 use Rattle.slip_fixes.specs.Bytes.{is_quote, after_digits, is_number, piece_of}
 
 -- the quotation mark at an end
@@ -38,6 +38,14 @@ abbrev pub truth : List ℕ → Option (List ℕ)
 truth value =
     if bytes_eq value (codes "\"true\"") || bytes_eq value (codes "'true'") then Some (codes "true")
     else if bytes_eq value (codes "\"false\"") || bytes_eq value (codes "'false'") then Some (codes "false")
+    else None
+
+-- a word of `lead` in quotation marks, in any case of letters
+abbrev pub new_lead : List ℕ → List ℕ → Option (List ℕ)
+new_lead key value =
+    if not (bytes_eq key (codes "lead")) then None
+    else if str_eq_ignore_ascii_case value (codes "\"keep\"") || str_eq_ignore_ascii_case value (codes "'keep'") then Some (codes "\"keep\"")
+    else if str_eq_ignore_ascii_case value (codes "\"clear\"") || str_eq_ignore_ascii_case value (codes "'clear'") then Some (codes "\"clear\"")
     else None
 
 abbrev pub is_unlisted : List ℕ → List ℕ → Bool

@@ -6,7 +6,7 @@ ghost use Rattle.slip_fixes.specs.Certain.{replaced, in_brackets, about_text, va
 use crate::bytes::{Before, after_last, key_before, key_of_value, piece_of};
 use crate::keys::near_field;
 use crate::toml_slips::{new_escape, new_mark, new_word};
-use crate::value_slips::{is_unlisted, new_value, quoted_capital};
+use crate::value_slips::{is_unlisted, new_lead, new_value, quoted_capital};
 use lint::Finding;
 use lint_words::{About, Code};
 use std::alloc::{AllocError, Global};
@@ -148,6 +148,7 @@ pub fn certain_fix(
     let key = about_text(finding.words.about());
     match finding.words.code() {
         Code::WrongKind => value_fix(alloc, key.as_bytes(), piece, span.end),
+        Code::Range => replaced(alloc, span.begin, span.end, new_lead(key.as_bytes(), piece)),
         Code::UnknownKey => key_fix(alloc, key, span),
         Code::BadFrame => id_fix(alloc, piece, span.end),
         Code::RowCode => code_fix(alloc, piece, span),

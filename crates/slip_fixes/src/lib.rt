@@ -16,6 +16,7 @@
 //! | `:` after a key | ` =` |
 //! | a key that is one step from another, with the same first letter | that key |
 //! | a capital letter in an id | the small letter |
+//! | a capital letter in a word of `lead` | the small letter |
 //! | a typed pound sign | `#` |
 //! | `\u82` before what is no digit in base 16 | `\u0082` |
 //! | `\U0082` before what is no such digit | `\u0082` |

@@ -1,7 +1,7 @@
 //! Values of a text that is TOML.
 
 ghost use Rattle.std.specs.Prelude.{◌≡◌, option_map};
-ghost use Rattle.slip_fixes.specs.Values.{is_close, is_whole, closed_number, quoted_number, truth, takes_number, is_item, is_unlisted, capital_before, quoted_capital, new_value};
+ghost use Rattle.slip_fixes.specs.Values.{is_close, is_whole, closed_number, quoted_number, truth, new_lead, takes_number, is_item, is_unlisted, capital_before, quoted_capital, new_value};
 
 use crate::bytes::{after_digits, is_number, is_quote, piece_of};
 
@@ -75,6 +75,21 @@ fn truth(value: &[u8]) -> Option<&[u8]>
         Some(b"true")
     } else if value == b"\"false\"".as_slice() || value == b"'false'".as_slice() {
         Some(b"false")
+    } else {
+        None
+    }
+}
+
+/// A word of `lead` in quotation marks, in any case of letters.
+pub fn new_lead(key: &[u8], value: &[u8]) -> Option<&'static [u8]>
+    ensures { option_map (λ text. text.now) result ≡ new_lead key.now value.now }
+{
+    if key != b"lead".as_slice() {
+        None
+    } else if value.eq_ignore_ascii_case(b"\"keep\"") || value.eq_ignore_ascii_case(b"'keep'") {
+        Some(b"\"keep\"")
+    } else if value.eq_ignore_ascii_case(b"\"clear\"") || value.eq_ignore_ascii_case(b"'clear'") {
+        Some(b"\"clear\"")
     } else {
         None
     }
