@@ -1,6 +1,4 @@
-"""The program that makes one call on an input, crates/refused_calls: what tests/refuse-calls and tests/failing-devices
-share.
-"""
+"""The program that makes one call on an input, crates/run_bench: what tests/refuse-calls and failing-devices share."""
 
 import os
 import shutil
@@ -32,8 +30,8 @@ def build() -> None:
 
 
 def _build() -> None:
-    print("proving and building crates/refused_calls ..", flush=True)
-    done = run(["rt", "run", "--", "keys_read", "1"], cwd=TOP / "crates" / "refused_calls", seconds=7_200)
+    print("proving and building crates/run_bench ..", flush=True)
+    done = run(["rt", "run", "--", "call", "keys_read", "1"], cwd=TOP / "crates" / "run_bench", seconds=7_200)
     if done.status:
-        raise OSError(f"crates/refused_calls can't be built: {done.stdout}{done.stderr}")
+        raise OSError(f"crates/run_bench can't be built: {done.stdout}{done.stderr}")
     CALLS.touch()

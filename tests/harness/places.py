@@ -1,7 +1,7 @@
 """The programs that the tests judge: each test takes their paths from here.
 
-The variable `PAGEAUDIT` names the program, and `PAGEAUDIT_CALLS` the one that makes single calls
-(crates/refused_calls). Without them they are the ones that this checkout has built.
+The variable `PAGEAUDIT` names the program, and `PAGEAUDIT_CALLS` the one that makes single calls (crates/run_bench).
+Without them they are the ones that this checkout has built.
 
 For another processor than this machine's, `PAGEAUDIT_EMULATOR` names qemu's command and `PAGEAUDIT_CC` the C compiler
 (tests/on-aarch64).
@@ -21,7 +21,7 @@ def named(variable: str, crate: str) -> Path:
 
 
 PROGRAM = named("PAGEAUDIT", "command_line")
-CALLS = named("PAGEAUDIT_CALLS", "refused_calls")
+CALLS = named("PAGEAUDIT_CALLS", "run_bench")
 IS_ARM64 = platform.machine() in ("aarch64", "arm64")
 # The folder with the library that is shipped for this machine.
 SHIPPED_LIBRARY = TOP / "dist" / "aarch64" if IS_ARM64 else TOP / "dist"

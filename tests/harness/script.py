@@ -28,7 +28,7 @@ class About:
     partly: bool = False
     """Whether some of its results don't depend on the program."""
     calls: bool = False
-    """Whether it needs the program of the calls, crates/refused_calls."""
+    """Whether it needs the program of the calls, crates/run_bench."""
     clears: bool = True
     """Whether it runs a command to which the wrong program that clears all gives a wrong answer."""
     short: tuple[str, ...] = ()

@@ -6,11 +6,13 @@
 //! bases of full size, else a sixteenth. `run_bench find` measures the finder alone, and `run_bench paint` painting. Without
 //! any word all are measured, with a sixteenth, to show in seconds that each result is right. The figures go to standard
 //! error: the least processor times of some runs in turns. `ok` is printed if each result was right. `run_bench show FILE`
-//! only makes the screens of all frames of a base as texts, for `tools/speeds`, which measures the program's commands.
+//! only makes the screens of all frames of a base as texts, for `tools/speeds`, which measures the program's commands, and
+//! `run_bench call NAME WORD..` one call that takes memory, for the tests that refuse it.
 #![tactic(auto)]
 
 mod auditing;
 mod by_bytes;
+mod calls;
 mod checking;
 mod edition;
 mod figure;
@@ -51,6 +53,9 @@ fn run(rt: &HostRuntime, words: &[String]) -> Result<()> {
 
 fn main(rt: HostRuntime) -> Result<()> {
     let words: Vec<String> = env::args(&rt)?.collect(rt.alloc())?;
+    if words.get(1).is_some_and(|word| word.as_str() == "call") {
+        return calls::call(&rt, words.get(2..).unwrap_or(&[]));
+    }
     run(&rt, words.as_slice())?;
     println!(rt; "ok")?;
     Ok(())

@@ -1,6 +1,6 @@
 //! A call made twice, the first time between two lines on standard error.
 
-use crate::answers::Answer;
+use crate::calls::answers::Answer;
 use audit_report::{IntoWrite, write_whole};
 use std::alloc::Global;
 use std::io;
@@ -10,8 +10,8 @@ macro_rules! calls {
     ($rt:ident, $name:ident, $words:ident, $alloc:ident;
         $($call:ident($($word:ident: $kind:ident),*) => $answer:expr;)* _ => $other:expr) => {{
         $(if $name == stringify!($call) {
-            $(let $word = crate::words::$kind($words, $rt)?;)*
-            return crate::tried::tried($rt, |$alloc: std::alloc::Global| $answer);
+            $(let $word = crate::calls::words::$kind($words, $rt)?;)*
+            return crate::calls::tried::tried($rt, |$alloc: std::alloc::Global| $answer);
         })*
         $other
     }};
@@ -20,10 +20,10 @@ macro_rules! calls {
 /// The answer of a run into an output of its own, with the function that gives its exit status.
 macro_rules! ran {
     ($alloc:ident, $out:ident, $status_of:ident, $run:expr) => {{
-        let mut sink = crate::words::output($alloc, $out)?;
+        let mut sink = crate::calls::words::output($alloc, $out)?;
         let $out = &mut audit_report::IntoWrite::new(&mut sink);
         let run = $run;
-        crate::answers::of_run($alloc, $status_of(&run), &run, sink.taken.as_slice())
+        crate::calls::answers::of_run($alloc, $status_of(&run), &run, sink.taken.as_slice())
     }};
 }
 

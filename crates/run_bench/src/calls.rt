@@ -1,12 +1,11 @@
-//! Makes one call that takes memory, on the input that the words name, and shows what it answered.
+//! One call that takes memory, on the input that words name, and what it answers.
 //!
-//! `refused_calls CALL WORD..` makes the input, prints on standard error where the call begins and where it has ended, and
-//! prints the text of its answer, `memory refused` if a growth was refused. After the line `again` comes the answer of the
-//! same call made once more with what was lent to it before. The tables have a row for each call: the words that it takes,
-//! each with what it names (`words`), and the text of its answer.
+//! The input is made first. Standard error says where the call begins and where it has ended, and standard output has the
+//! text of its answer, `memory refused` if a growth was refused. After the line `again` comes the answer of the same call
+//! made once more with what was lent to it before. The tables have a row for each call: the words that it takes, each with
+//! what it names (`words`), and the text of its answer.
 //!
-//! The program refuses no request for memory by itself: `tests/refuse-calls` does, between the two lines on standard error.
-#![tactic(auto)]
+//! No request for memory is refused here: `tests/refuse-calls` does that, between the two lines on standard error.
 
 mod answers;
 mod saved;
@@ -31,18 +30,15 @@ use pageaudit::{
     status_of_map, status_of_pages, status_of_show,
 };
 use saved::{exported, imported};
-use std::env;
 use tried::{calls, ran};
 use words::Words;
 
-fn main(rt: HostRuntime) -> Result<()> {
-    let words: Vec<String> = env::args(&rt)?.collect(rt.alloc())?;
-    called(&rt, &mut words.iter()).context("no such call, or its words name nothing that it takes")
+/// Makes the call of the first word, on what the others name.
+pub fn call(rt: &HostRuntime, words: &[String]) -> Result<()> {
+    called(rt, &mut words.iter()).context("no such call, or its words name nothing that it takes")
 }
 
-// Makes the call of the first word after the program's own, on what the other words name.
 fn called(rt: &HostRuntime, words: &mut Words) -> Option<()> {
-    let _program = words.next()?;
     let name = words.next()?.as_str();
     calls! { rt, name, words, alloc;
         keys_read(text: word) => of_keys(alloc, keys_read(alloc, text));
