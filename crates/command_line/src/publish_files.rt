@@ -17,8 +17,12 @@ use policy_text::{PolicyFault, policy_read, widest_text};
 use publishing::{Publish, PublishFault, PublishStatus, run_publish, status_of_publish};
 use std::alloc::Global;
 use std::fs::{File, OpenOptions};
+use std::path::PathBuf;
 use std::rt::{Files, Stderr};
 use std::{fs, io};
+
+// The files of a folder beside its editions.
+const OWN_FILES: [&str; 3] = ["policy.toml", "current", "lock"];
 
 // What happened to the folder before the run.
 #[derive(Debug, Clone, Copy, PartialEq, Eq)]
@@ -346,6 +350,34 @@ fn publish_into<R: Files + Input + Print + Eprint + AllocGlobal + Clone + Drop>(
     }
 }
 
+// What a path leads to. There need not be such a file yet.
+fn leading_to<R: Files + AllocGlobal>(rt: &R, path: &str) -> io::Result<PathBuf> {
+    match fs::canonicalize(rt, path) {
+        Ok(whole) => Ok(whole),
+        Err(_) => {
+            let folder = fs::canonicalize(rt, parent(path))?;
+            Ok(folder.as_path().join(rt.alloc(), name_of(path))?)
+        }
+    }
+}
+
+// Whether a path leads to one of the folder's own files, or into its editions.
+fn is_of_folder<R: Files + AllocGlobal>(rt: &R, folder: &str, path: &str) -> io::Result<bool> {
+    let folder = fs::canonicalize(rt, folder)?;
+    let file = leading_to(rt, path)?;
+    let editions = folder.as_path().join(rt.alloc(), "editions")?;
+    if file.as_path().starts_with(editions.as_path().as_str()) {
+        return Ok(true);
+    }
+    for name in OWN_FILES {
+        let own = folder.as_path().join(rt.alloc(), name)?;
+        if own.as_path().as_str() == file.as_path().as_str() {
+            return Ok(true);
+        }
+    }
+    Ok(false)
+}
+
 /// Publishes a base into a folder, which is made if it isn't there; the exit status.
 pub fn publish<R: Files<File = File> + Input + Print + Eprint + AllocGlobal + Clone + Drop>(
     rt: &R,
@@ -362,6 +394,12 @@ pub fn publish<R: Files<File = File> + Input + Print + Eprint + AllocGlobal + Cl
         Ok(locked) => locked,
         Err(Shut { name, why }) => return report_in(rt, asked.folder, name, &why),
     };
+    if let Some(page) = asked.page
+        && matches!(is_of_folder(rt, asked.folder, page), Ok(true))
+    {
+        let _ = eprintln!(rt; "error: --page names one of the folder's own files");
+        return 2;
+    }
     if found == Found::Made {
         let _ = eprintln!(rt;
             "{}/policy.toml is new, with the widest limits: write the centre's ceiling and keyings there",
