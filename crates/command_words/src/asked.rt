@@ -137,10 +137,16 @@ fn ignored_of(words: &[&str]) -> Ignored {
     ignored
 }
 
-// Which bases are linted, and how.
+// Which bases are linted, and how. Only one of them can be standard input.
 fn lint_of<'a>(words: &'a ArgMatches, groups: Groups) -> Option<Request<'a>> {
+    let bases = words.get_strs("BASE")?;
+    if bases.iter().filter(|base| **base == "-").count() > 1 {
+        return Some(Request::Misused {
+            why: "only one BASE can be standard input",
+        });
+    }
     Some(Request::Lint(Lint {
-        bases: words.get_strs("BASE")?,
+        bases,
         format: words.get_str("format").and_then(format_of)?,
         colouring: colouring_of(words.get_str("color")),
         ignored: ignored_of(words.get_strs("ignore").unwrap_or(&[])),
