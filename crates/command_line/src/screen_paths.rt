@@ -7,37 +7,45 @@ use std::alloc::{AllocError, Global};
 use std::rt::Files;
 use std::{fs, io};
 
-// Adds the files of a folder, but for those whose names begin with a dot. A folder in it isn't read.
+// Adds the files of a folder, but for those whose names begin with a dot. A folder in it isn't read. Whether each name is UTF-8: a
+// file of another is left out.
 fn push_entries<R: Files + AllocGlobal + Clone + Drop>(
     rt: &R,
     folder: &str,
     paths: &mut Vec<String>,
-) -> io::Result<()> {
+) -> io::Result<bool> {
+    let mut are_named = true;
     for entry in fs::read_dir(rt, folder)? {
-        let entry = entry?;
-        let name = entry.file_name();
-        let path = format!(in rt.alloc(); "{folder}/{name}")?;
-        if !name.starts_with('.') && !is_folder(rt, path.as_str()) {
-            paths.push(path)?;
+        match entry {
+            Ok(entry) => {
+                let name = entry.file_name();
+                let path = format!(in rt.alloc(); "{folder}/{name}")?;
+                if !name.starts_with('.') && !is_folder(rt, path.as_str()) {
+                    paths.push(path)?;
+                }
+            }
+            Err(error) if error.kind() == io::ErrorKind::InvalidFilename => are_named = false,
+            Err(error) => return Err(error),
         }
     }
-    Ok(())
+    Ok(are_named)
 }
 
-// The files of a folder, in the order of their names.
+// The files of a folder, in the order of their names, and whether these are all.
 fn entries<R: Files + AllocGlobal + Clone + Drop>(
     rt: &R,
     folder: &str,
-) -> Result<Vec<String>, Unfinished> {
+) -> Result<(Vec<String>, bool), Unfinished> {
     let mut paths = Vec::new(rt.alloc());
-    if let Err(error) = push_entries(rt, folder, &mut paths) {
-        return Err(unread(&error));
-    }
-    if paths.is_empty() {
+    let are_named = match push_entries(rt, folder, &mut paths) {
+        Ok(are_named) => are_named,
+        Err(error) => return Err(unread(&error)),
+    };
+    if paths.is_empty() && are_named {
         return Err(Unfinished::Unread("no files in this folder"));
     }
     match paths.sort() {
-        Ok(()) => Ok(paths),
+        Ok(()) => Ok((paths, are_named)),
         Err(_) => Err(Unfinished::Fault(RunFault::Memory)),
     }
 }
@@ -60,7 +68,7 @@ fn push_file<R: Files + AllocGlobal + Clone + Drop>(
     if !is_folder(rt, path) {
         return push_path(rt, path, paths).map_err(|_| Unfinished::Fault(RunFault::Memory));
     }
-    let entries = match entries(rt, path) {
+    let (entries, are_all) = match entries(rt, path) {
         Ok(entries) => entries,
         Err(why) => return Err(why),
     };
@@ -69,11 +77,15 @@ fn push_file<R: Files + AllocGlobal + Clone + Drop>(
             return Err(Unfinished::Fault(RunFault::Memory));
         }
     }
-    Ok(())
+    if are_all {
+        Ok(())
+    } else {
+        Err(Unfinished::Unread("a file's name in it isn't UTF-8"))
+    }
 }
 
-/// Adds the files that are asked for, and those of each folder that is. A folder that can't be read or has no files is named on standard
-/// error; the exit status, 0 if there is none.
+/// Adds the files that are asked for, and those of each folder that is. A folder that can't be read, has no files, or has one whose name
+/// isn't UTF-8, is named on standard error; the exit status, 0 if there is none.
 pub fn screen_paths<R: Files + Eprint + AllocGlobal + Clone + Drop>(
     rt: &R,
     screens: &[&str],

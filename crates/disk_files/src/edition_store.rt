@@ -132,6 +132,15 @@ fn put_edition<R: Files>(
     flush_folder(rt, editions.as_str())
 }
 
+// What is in a folder, unless its name isn't UTF-8: nothing of a folder of editions has such a name.
+fn named<T>(entry: io::Result<T>) -> io::Result<Option<T>> {
+    match entry {
+        Ok(entry) => Ok(Some(entry)),
+        Err(error) if error.kind() == io::ErrorKind::InvalidFilename => Ok(None),
+        Err(error) => Err(error),
+    }
+}
+
 // The numbers of the editions.
 fn read_numbers<R: Files + AllocGlobal + Clone + Drop>(
     rt: &R,
@@ -146,8 +155,9 @@ fn read_numbers<R: Files + AllocGlobal + Clone + Drop>(
         Err(error) => return Err(error),
     };
     for entry in entries {
-        let entry = entry?;
-        if let Some(number) = number_of(entry.file_name()) {
+        if let Some(entry) = named(entry)?
+            && let Some(number) = number_of(entry.file_name())
+        {
             numbers.push(number)?;
         }
     }
@@ -176,8 +186,9 @@ fn remove_editions_parts<R: Files + AllocGlobal + Clone + Drop>(
         Err(error) => return Err(error),
     };
     for entry in entries {
-        let entry = entry?;
-        if is_part(entry.file_name()) {
+        if let Some(entry) = named(entry)?
+            && is_part(entry.file_name())
+        {
             fs::remove_dir_all(rt, entry.path())?;
         }
     }
