@@ -70,6 +70,7 @@ pub fn replace_text<R: Files + AllocGlobal>(
             let run = write_text(file, text);
             match names.close(rt, run, &()) {
                 Ok(()) => Ok(()),
+                Err(RunFault::Write(_)) => Err(Unfinished::Unwritten("write failed")),
                 Err(fault) => Err(Unfinished::Fault(fault)),
             }
         }
