@@ -1,8 +1,7 @@
 /* The proved check of viewdata page bases, for C99 and C++. Link with -lpageaudit.
 
    The calls: pageaudit_check, pageaudit_change, pageaudit_audit, pageaudit_lint, pageaudit_lint_json, pageaudit_show and
-   pageaudit_status_text. Each does what the program `pageaudit` does, of texts in memory, and answers the program's exit
-   status.
+   pageaudit_status_text. Each does what the program `pageaudit` does, of texts in memory, and answers a status below.
 
    - No call keeps anything, reads a file, or ends the program, and nothing has to be freed. Several threads may call at
      once, each with its own buffer.
@@ -33,7 +32,7 @@ enum pageaudit_status {
     PAGEAUDIT_CLEAR = 0,
     /* It is refused, or there are faults or errors: the text names them. */
     PAGEAUDIT_FAULTY = 1,
-    /* The policy is none; there is no text. */
+    /* The policy is invalid; there is no text. */
     PAGEAUDIT_BAD_POLICY = 2,
     /* A text is at fault: the line names its first fault. */
     PAGEAUDIT_BAD_TEXT = 3,
@@ -166,7 +165,7 @@ static inline enum pageaudit_status pageaudit_audit_base(struct pageaudit_text b
         groups.length, room == 0 ? &none : report, room, length == NULL ? &whole : length);
 }
 
-/* Finds every fault of the text of a base, and the frames that no key reaches. A text that is no base is PAGEAUDIT_FAULTY
+/* Finds every fault and warning of a base's text, as `pageaudit lint` does. A text that isn't a base is PAGEAUDIT_FAULTY
    here, and never PAGEAUDIT_BAD_TEXT.
 
    name    is printed at the start of each line, as a file's path
@@ -201,8 +200,8 @@ static inline enum pageaudit_status pageaudit_lint_base_json(struct pageaudit_te
 
 /* Shows the screen of a frame, as `pageaudit show` does, for a caller in these groups, as "7,9".
 
-   PAGEAUDIT_CLEAR if it is shown; PAGEAUDIT_FAULTY if the base has no such frame; PAGEAUDIT_BAD_POLICY if the groups are no
-   list. Without a screen codes and looks stay as they are.
+   PAGEAUDIT_CLEAR if it is shown; PAGEAUDIT_FAULTY if the base has no such frame; PAGEAUDIT_BAD_POLICY if the groups are
+   invalid. Without a screen codes and looks stay as they are.
 
    frame   its id, as "478a", or a page for its frame a, as "478"; null or "" for the entry frame
    codes   what the cells hold: 20 to 7F, and attributes from 80 to 9F; may be null

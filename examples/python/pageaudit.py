@@ -52,7 +52,7 @@ class TextError(ValueError):
 class Policy:
     """What a centre asks of its bases.
 
-    Raises PolicyError, or TypeError, which names the argument, for what is no number or no list of numbers.
+    Raises PolicyError, or TypeError, which names the argument, for anything but numbers or a list of them.
     """
 
     ceiling: int
@@ -174,10 +174,9 @@ def audit(base: bytes, policy: Policy) -> Audit:
 
 
 def lint(base: bytes, policy: Policy, file: str = "") -> list[Finding]:
-    """Every fault of the text of a base, or else of its audit, and the frames that no key reaches, in the order of
-    their places.
+    """Every fault of the text of a base, or else of its audit, and its warnings, in the order of their places.
 
-    `file` is that of each finding. Raises MemoryError. A text that is no base is an error among the findings, and no
+    `file` is that of each finding. Raises MemoryError. A text that isn't a base is an error among the findings, and no
     TextError.
     """
     _, text = _call("pageaudit_lint_json", {"name": os.fsencode(file), "base": base}, policy, 1 << 16)
@@ -263,7 +262,7 @@ def _kind(value: object) -> str:
 
 
 def _whole(name: str, value: object) -> int:
-    """The whole number that an argument is. True and False are none."""
+    """The whole number that an argument is. True and False aren't."""
     if isinstance(value, bool) or not isinstance(value, SupportsIndex):
         raise TypeError(f"{name} has to be a whole number, not {_kind(value)}")
     return operator.index(value)

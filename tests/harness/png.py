@@ -25,7 +25,7 @@ def nearest(left: int, up: int, corner: int) -> int:
 
 
 def unfiltered(kind: int, line: bytearray, above: bytes, depth: int) -> bytes:
-    """The bytes of a line that is written by a kind of filter, after the line above; a pixel has so many bytes."""
+    """The bytes of a line that a kind of filter wrote, after the line above; `depth` is the bytes of a pixel."""
     if kind == 2:
         return bytes((one + up) & 255 for one, up in zip(line, above))
     for i in range(len(line) if kind else 0):

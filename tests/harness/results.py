@@ -23,7 +23,7 @@ from harness.running import Done
 
 Item = TypeVar("Item")
 
-# So many lines of a difference are shown, each so long.
+# At most this many lines of a difference are shown, each of at most this many characters.
 LINES, WIDTH = 20, 300
 # A longer value is one line: to lay it out would take long.
 LONG = 20_000

@@ -107,8 +107,8 @@ def main(
     """Runs the cases of a script, its globals() with its docstring, or others by their names.
 
     Each case is given the test, and what `given` gives for it. `count` is the default of --count, `options` adds words
-    of its own, `files` are compared, and with --write written. A whole case has one result. So many run at once; 0 is
-    one a processor.
+    of its own, `files` are compared, and with --write written. A whole case has one result. `at_once` run side by side;
+    0 is one a processor.
     """
     print_any()
     every = dict(cases if cases is not None else cases_of(script))

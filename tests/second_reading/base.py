@@ -168,7 +168,7 @@ def keys_in(text: str) -> list[Key]:
 
 @dataclass(frozen=True)
 class Policy:
-    """What a caller is promised: a ceiling of prices, so many keys back, and that in these groups."""
+    """What a caller is promised: a ceiling of prices, at most this many keys back, and that in these groups."""
 
     ceiling: int = 9_999
     keyings: int = 65_535

@@ -15,7 +15,7 @@ RUN = re.compile(rb"[\x20-\x7e]{3,}")
 
 
 class View(NamedTuple):
-    """Which frames a map shows: near a page by at most so many keys, from it (`page`) or to it; without a view all."""
+    """Which frames a map shows: near a page by at most `most` keys, from it (`page`) or to it; without a view all."""
 
     side: Literal["page", "to"] | None = None
     page: int = 0
@@ -45,7 +45,7 @@ def leads(base: Base, groups: Groups, frame: Frame) -> list[FrameId]:
 
 
 def near(base: Base, groups: Groups, start: FrameId, most: int | None, back: bool) -> set[FrameId]:
-    """The frames that at most so many keys lead to from a frame, or if `back` from which they lead there."""
+    """The frames that at most `most` keys lead to from a frame, or if `back` from which they lead there."""
     ways = {id: leads(base, groups, frame) for id, frame in base.frames.items()}
     if back:
         ways = {id: [other for other, ends in ways.items() if id in ends] for id in ways}

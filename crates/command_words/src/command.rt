@@ -265,7 +265,7 @@ fn map_command<'a>(alloc: Global) -> Result<Command<'a>, AllocError> {
 // What screens are taken, and into which base.
 fn with_screens<'a>(alloc: Global, command: Command<'a>) -> Result<Command<'a>, AllocError> {
     let screens =
-        "Files of screens, or folders of them; - is standard input. A name as 478a.bin, or row 0, says the frame";
+        "Files of screens, or folders of them; - is standard input. A name like 478a.bin, or row 0, gives the frame";
     let into = "Put the frames into BASE, and change only the rows of these frames";
     let screen = place(alloc, "SCREEN", screens)
         .num_args(1..)
@@ -337,7 +337,7 @@ fn publish_command<'a>(alloc: Global) -> Result<Command<'a>, AllocError> {
 fn editions_command<'a>(alloc: Global) -> Result<Command<'a>, AllocError> {
     let verify = "Check each edition, its sums and the change to it";
     Command::new(alloc, "editions")
-        .about("List the editions of a folder, or verify that they are what was published")
+        .about("List the editions of a folder, or check them and the changes between them")
         .after_help(help::EDITIONS)
         .arg(place(alloc, "FOLDER", "The folder of editions"))?
         .arg(flag(alloc, "verify", verify))

@@ -14,7 +14,7 @@ pub const LINT: &str = concat!(
     "--fix changes only those slips in the file: 'price = \"5\"' becomes 'price = 5'. What a frame shows\n",
     "stays. For standard input it prints the fixed text, and the findings on standard error.\n",
     "Warnings that --ignore names don't count; with -q they count and aren't printed. Colours are for\n",
-    "the form full; auto is off if NO_COLOR is set. An object of JSON has file, level, code, message,\n",
+    "the form full; auto is off if NO_COLOR isn't empty. An object of JSON has file, level, code, message,\n",
     "hint, frame, key and keys, its span as line, column, end_line and end_column, both counted from 1,\n",
     "and fix: null, or a span and its new text.\n\n",
     "Examples: pageaudit lint examples/town.toml\n",
@@ -156,6 +156,6 @@ pub const EDITIONS: &str = concat!(
     "after CLEARED no caller, in whichever edition they began, met a frame that is missing or closed\n",
     "while one edition followed another.\n\n",
     "Example: pageaudit editions live --verify\n\n",
-    "Status: 0 listed, or all is what was published, 1 something isn't, 2 bad command line,\n",
+    "Status: 0 listed, or all is cleared, 1 something isn't, 2 bad command line,\n",
     "        3 a file that is missing, refused or can't be read, 4 out of memory",
 );

@@ -9,7 +9,7 @@ use crate::candidate::Candidate;
 use editions::{EditionStore, StoreFault, WholeEdition, next_number, put_edition};
 use std::alloc::Global;
 
-/// Why an edition isn't published. It may be in the folder without being current.
+/// Why an edition isn't published. After `Folder` or `Memory` it may be in the folder, and may be current.
 #[derive(Debug, Clone, Copy, PartialEq, Eq)]
 pub enum PutFault {
     /// There is no next number.

@@ -1,4 +1,4 @@
-//! What is in a folder of editions: a line for each, and whether all of them are what was published.
+//! What is in a folder of editions: a line for each, and whether each is cleared, by itself and after the one that it follows.
 //!
 //! ```
 //! // under the lock of the folder
@@ -7,8 +7,8 @@
 //! ```
 //!
 //! - [`run_list`]: a line for each edition, in the order of their numbers.
-//! - [`run_verify`]: checks each edition by itself and against the one that it follows, and that `current` is the last
-//!   of its chain. If it answers [`EditionsStatus::Cleared`], the folder is sound; [`sound_folders_are_safe`] says what
+//! - [`run_verify`]: checks each edition by itself and against the one that it follows, and that only the last may follow
+//!   `current`'s. If it answers [`EditionsStatus::Cleared`], the folder is sound; [`sound_folders_are_safe`] says what
 //!   that means for callers.
 //! - [`EditionsStatus`], [`EditionsFault`], [`FolderFault`], [`status_of_editions`]: what a run found, why it ended
 //!   early, and the exit status for it.

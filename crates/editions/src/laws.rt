@@ -1,8 +1,8 @@
 ghost use Rattle.editions.specs.Chains.{WiderStaysCleared, ChainsAreSafe};
 ghost use Rattle.editions.specs.Moments.{MomentsAreSound};
 
-/// Whatever stops the steps of a publish, and at whatever moment: each edition in the folder is whole and was cleared, `current`
-/// names one of them, and no edition has changed.
+/// Whatever stops the safe steps of a publish into a sound folder, and at whatever moment: the folder is sound, and no edition has
+/// changed.
 pub fn moments_are_sound()
     ensures { MomentsAreSound }
 {}

@@ -7,7 +7,7 @@ use crate::store::{EditionStore, StoreFault};
 use crate::whole_edition::WholeEdition;
 use std::alloc::Global;
 
-/// Writes an edition, and then makes it current. If that fails, the edition may be there without being current.
+/// Writes an edition, and then makes it current. If that fails, the edition may be there, and may be current.
 pub fn put_edition<S: EditionStore>(
     alloc: Global,
     store: &mut S,

@@ -490,7 +490,7 @@ const P103: &str = r#"    CLEARED
 
 const P104: &str = r#"REFUSED"#;
 
-const P105: &str = r#"The first condition that fails: its code, its name, and mostly the frame. A
+const P105: &str = r#"The first condition that fails: its code, its name, and usually the frame. A
 check tries K1, K2, K3, K15, K4, then K5 to K14 row by row."#;
 
 const P106: &str = r#"    pageaudit check base.toml base.cert --ceiling 0 --keyings 0"#;
@@ -652,7 +652,7 @@ const P177: &str = r#"    sed 's/^price = 5/price = 7/' base.toml >new.toml
 
 const P178: &str = r#"    NEW REFUSED K7 Price 1b"#;
 
-const P179: &str = r#"Fix: that of the line. Mostly the new edition needs an audit."#;
+const P179: &str = r#"Fix: that of the line. Usually the new edition needs an audit."#;
 
 const P180: &str = r#"new base"#;
 
@@ -1134,8 +1134,8 @@ const P358: &str = r#"Fix: look at the path, and at who may read the file."#;
 
 const P359: &str = r#"write failed"#;
 
-const P360: &str = r#"Standard output took only this many bytes. No answer was given, whatever was
-printed."#;
+const P360: &str = r#"Standard output, or 'audit''s FILE, took only this many bytes. No answer was
+given, whatever was printed."#;
 
 const P361: &str = r#"    pageaudit walk base.toml '' >/dev/full"#;
 
@@ -1340,7 +1340,7 @@ E2, NoLongerCovered     a frame is lost
 UNREACHED               no key leads to a frame
 HIDDEN                  a row under double height
 LINEEND                 text that goes on in the same column
-ESCAPE                  an escape that is none
+ESCAPE                  an escape that isn't one
 MENU                    a key that has no route
 UNSOUGHT                no key leads to a closed frame
 FRAME, RANK, GROUP, UNREACHED  a frame of a list

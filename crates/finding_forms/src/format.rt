@@ -8,8 +8,8 @@ pub enum Format {
     Coloured,
     /// `PATH:LINE:COLUMN: error: CODE NAME: MESSAGE; HINT`.
     Line,
-    /// An object of JSON on one line: `code`, `column`, `end_column`, `end_line`, `file`, `frame`, `hint`, `key`, `keys`, `level`,
-    /// `line` and `message`, of which `frame`, `hint`, `key` and `keys` may be null.
+    /// An object of JSON on one line: `code`, `column`, `end_column`, `end_line`, `file`, `fix`, `frame`, `hint`, `key`, `keys`,
+    /// `level`, `line` and `message`, of which `fix`, `frame`, `hint`, `key` and `keys` may be null.
     Json,
     /// A workflow command of GitHub: `::error file=PATH,line=..,endLine=..,col=..,endColumn=..,title=CODE NAME::MESSAGE; HINT`.
     Github,

@@ -112,10 +112,10 @@ fn printed(
 
 /// What is printed of findings in a text, in their order.
 ///
-/// A control character of the path is written as `\u{1b}`, and one of the text's lines but a tab as TOML takes it, `\u001B`; U+FFFD
-/// is in place of what isn't UTF-8. A letter of East Asia has two carets. Lines and columns are from 1; a column counts characters. In [`Format::Full`] a line of more than
-/// 120 characters is cut: up to 37 are left before the span and 77 from its first on. The carets end with the span or the line,
-/// and there is one at least.
+/// But for JSON a control character of the path is written as `\u{1b}`, and one of the text's lines but a tab as TOML takes it,
+/// `\u001B`; U+FFFD is in place of what isn't UTF-8. A letter of East Asia has two carets. Lines and columns are from 1; a column
+/// counts characters. In [`Format::Full`] a line of more than 120 characters is cut: up to 37 are left before the span and 77 from
+/// its first on. The carets end with the span or the line, and there is one at least.
 #[tactic(auto, using(crate::proofs::Printed::whole))]
 pub fn findings_text(
     alloc: Global,

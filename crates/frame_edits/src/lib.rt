@@ -1,7 +1,7 @@
 //! Frames that go into a base's text, which stays as it is but for what they show.
 //!
 //! ```
-//! merge_frames(alloc, text, &settled)? // the rows of 4001a are new, 4003a is at the end; nothing else of the text is changed
+//! merge_frames(alloc, text, false, &settled)? // the rows of 4001a are new, 4003a is at the end; nothing else of the text is changed
 //! ```
 //!
 //! - A frame that the base has gets the rows of the screen: they take the place of its `rows` or its `body`. Its routes, its price and

@@ -3,8 +3,8 @@ ghost use Rattle.frame_screens.specs.Laws.{HeadlineIsSeen, FramesDecide, WaysLea
 use checker::{cleared_is_good, good_is_safe};
 
 /// If the check of a base is Cleared, then after every list of keys the screen, before the centre's rows are painted, has in
-/// rows 0 and 23 what was there before, or blanks if a frame cleared it; on a new terminal they are blank. No double height in
-/// row 22 shows in row 23.
+/// rows 0 and 23 what was there before, or blanks if a frame cleared it; on a new terminal they are blank. Row 22 gets no double
+/// height.
 pub fn headline_is_seen()
     ensures { HeadlineIsSeen }
 {

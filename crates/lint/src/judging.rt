@@ -201,7 +201,7 @@ fn judged(alloc: Global, text: &[u8], policy: &Policy) -> Result<Vec<Finding>, A
 }
 
 /// Every finding of a base's text, in the order of where they begin: all faults of the text, or if it has none those of the
-/// audit, and the frames that no key reaches.
+/// audit, and its warnings.
 pub fn lint(alloc: Global, text: &[u8], policy: &Policy) -> Result<Vec<Finding>, AllocError>
     ensures findings { IfOk result (λ fs. spec.IsLint text.now policy.now fs.items) }
 

@@ -1,4 +1,4 @@
-//! Slips in a text that isn't TOML, each told by toml's message, the key of its line, and what is around its place.
+//! Slips in a text that isn't TOML, each known by toml's message, the key of its line, and what is around its place.
 
 ghost use Rattle.std.specs.Prelude.{◌≤◌, length};
 

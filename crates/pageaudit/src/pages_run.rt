@@ -24,7 +24,7 @@ fn run_of(run: Result<PagesStatus, PagesFault>) -> Result<PagesStatus, RunFault>
 /// Writes the frames of a view of a base as one HTML file, with its audit and the name of the base's file, for a caller of the
 /// policy's groups. If the base lacks the frame `a` of the view's page, nothing is written, and the status is NoPage.
 ///
-/// The base is read whole and judged first. The file is longer than memory may be, and is written section by section. On a fault
+/// The base is read whole and judged first. The file may be longer than memory, and is written section by section. On a fault
 /// of the base's file nothing was written; if memory is refused, a front of the file may have been. A device is not called again
 /// after it returned an error.
 pub fn run_pages<B: Source, O: Sink>(

@@ -20,7 +20,7 @@ use std::alloc::{AllocError, Global};
 /// What is shown.
 #[derive(Debug, Drop)]
 pub enum Target {
-    /// The entry frame, also if it is closed to the caller.
+    /// The entry frame, even if it is closed to the caller.
     Entry,
     /// A frame, over those on the way to it.
     Frame(FrameId),

@@ -58,7 +58,7 @@ fn lint_answer(
     }
 }
 
-/// Finds every fault of the text of a base, and the frames that no key reaches: a line for each, which begins with the name.
+/// Finds every fault and warning of a base's text, as `pageaudit lint` does: a line for each, which begins with the name.
 ///
 /// The policy is passed as to [`crate::pageaudit_check`]. Returns the number of a status; a text at fault is `Faulty`. The lines go
 /// to the front of `lines`, as far as they fit, and their whole length to `full_length`.

@@ -225,8 +225,8 @@ fn write_said<O: Sink>(out: &mut O, said: &[u8]) -> Result<(), PublishFault>
 ///
 /// The folder's lock is held by the caller. First the policy is read, and then the base; then what a stop left is put in order
 /// ([`PublishStatus::Published`] says nothing of it). The findings, the summary and the verdict, or what callers would lose, are
-/// written to `out` at the end, after a fault too: so after `Write` the edition may be current, and after `Folder` or `Memory` it
-/// may be in the folder, which the next publish then makes current. The words of the summary are tested, not proved.
+/// written to `out` at the end, after a fault too: so after `Write`, `Folder` or `Memory` the edition may be current; or after the
+/// last two it is in the folder alone, and if it follows one, the next publish makes it current. The summary's words are tested.
 pub fn run_publish<S: EditionStore, B: Source, O: Sink>(
     alloc: Global,
     store: &mut S,

@@ -47,7 +47,7 @@ fn run(rt: &HostRuntime, words: &[String]) -> Result<()> {
         "find" => finding::measure(rt),
         "paint" => painting::measure(rt, Size::Full),
         "show" => showing::show(rt, words.get(2).map_or("", |path| path.as_str())),
-        _ => bail!("the words are audit [full], check [full], find, paint or show FILE"),
+        _ => bail!("the words are audit|check [full], find, paint, show FILE or call NAME"),
     }
 }
 

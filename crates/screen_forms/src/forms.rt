@@ -14,7 +14,7 @@ use std::alloc::{AllocError, Global};
 pub enum SavedForm {
     /// The 960 codes.
     Cells,
-    /// EP1: the codes below 80 between 6 bytes and 2.
+    /// EP1: the codes' low seven bits between 6 bytes and 2.
     Ep1,
     /// TTI: a line for each of rows 0 to 22 that isn't blank, after the teletext page of the frame.
     Tti,

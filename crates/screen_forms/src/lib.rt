@@ -1,7 +1,7 @@
 //! The forms of screens that other programs read and write.
 //!
 //! ```
-//! push_form(&mut out, SavedForm::Link, id, &codes)? // 478a https://edit.tf/#0:QIECBAgQ..
+//! push_form(alloc, &mut out, SavedForm::Link, id, &codes)? // 478a https://edit.tf/#0:QIECBAgQ..
 //! link_codes(alloc, letters)? // the 960 codes of the letters after `#0:`
 //! ```
 //!
