@@ -46,7 +46,7 @@ fn printed(
     findings_text(alloc, format, path, text, findings)
 }
 
-// Rounds of the certain fixes of what is found, and nothing else is changed.
+// Rounds of the certain fixes of what is found, as long as there is one, and nothing else is changed.
 fn slips_fixed(alloc: Global, text: &[u8], policy: &Policy) -> Result<Fixed, AllocError>
     ensures { IfOk result (λ f. IsFixed policy.now text.now f.text.items f.fixes) }
 {

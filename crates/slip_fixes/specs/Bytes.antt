@@ -38,6 +38,10 @@ abbrev pub after_zeros : List ℕ → List ℕ
 after_zeros [] = []
 after_zeros (b ∷ bs) = if b == 48 then after_zeros bs else b ∷ bs
 
+abbrev pub after_gaps : List ℕ → List ℕ
+after_gaps [] = []
+after_gaps (b ∷ bs) = if is_gap b then after_gaps bs else b ∷ bs
+
 abbrev pub is_number : List ℕ → Bool
 is_number bs = not (length bs == 0) && list_all is_ascii_digit bs
 

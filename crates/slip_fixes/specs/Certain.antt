@@ -48,7 +48,7 @@ word_fix text span = replaced span.begin span.end (new_word (key_of_value text s
 abbrev pub fix_at : List ℕ → List ℕ → Span → Option ReplacementView
 fix_at [] text span = word_fix text span
 fix_at (b ∷ bs) text span =
-    if b == 58 then replaced span.begin (span.begin + 1) (new_mark (key_before text span.begin))
+    if b == 58 then replaced span.begin (span.begin + 1) (new_mark (key_before text span.begin) bs)
     else if b == 117 || b == 85 then replaced span.begin (span.begin + 1) (new_escape (b ∷ bs))
     else word_fix text span
 

@@ -1,5 +1,5 @@
 -- Rounds of fixes.
-use Rattle.std.specs.Prelude.{◌≡◌, ℕ, zero, suc, ◌+◌, ◌-◌, ◌^◌, Bool, true, false, min, nat_lt, nat_le, List, [], ◌∷◌, ◌++◌, length, Option, Some, None, if◌then◌else◌}
+use Rattle.std.specs.Prelude.{◌≡◌, ◌⊎◌, ℕ, zero, suc, ◌+◌, ◌-◌, ◌^◌, Bool, true, false, min, nat_lt, nat_le, List, [], ◌∷◌, ◌++◌, length, Option, Some, None, if◌then◌else◌}
 use Rattle.checker.specs.declared.policy.Policy.{Policy}
 use Rattle.lint_words.specs.declared.code.Code.{Code}
 use Rattle.lint_words.specs.declared.code.Code.TheVariants.{NotToml, TooLong}
@@ -7,6 +7,7 @@ use Rattle.lint.specs.Findings.{FindingView}
 use Rattle.lint.specs.Lint.{IsLint}
 use Rattle.text_edits.specs.Edits.{ReplacementView, edited}
 use Rattle.slip_fixes.specs.Certain.{certain_fix}
+use Rattle.slip_fixes.specs.declared.rounds.TheConstants.{MOST_ROUNDS}
 
 -- the fix, unless it begins before a place
 abbrev pub first_fix : ℕ → Option ReplacementView → List ReplacementView
@@ -75,7 +76,28 @@ abbrev pub AreRounds : Policy → List ℕ → ℕ → List ℕ → ℕ → Type
 AreRounds policy old zero new fixes = (new ≡ old) × (fixes ≡ 0)
 AreRounds policy old (suc n) new fixes = ThenRound policy (AreRounds policy old n) new fixes
 
--- the last text of some rounds that begin with the old one, and the fixes of all of them
+-- no fix of these findings can be made: there is none, or they don't come one after the other in the text
+abbrev pub HasNoFix : List ℕ → List FindingView → Type 0
+HasNoFix text findings = (fixes_of text findings ≡ []) ⊎ (edited text (fixes_of text findings) ≡ None)
+
+-- TOML doesn't read the text further once its fixes are made
+pub record IsReadNoFurther (policy : Policy) (text : List ℕ) (findings : List FindingView) : Type 0 where
+  pub new : List ℕ
+  pub number : ℕ
+  pub next : IsNext text findings new number
+  pub after : List FindingView
+  pub found_after : IsLint new policy after
+  pub further : reads_further findings after ≡ false
+
+-- no round comes after a text
+pub record IsLast (policy : Policy) (text : List ℕ) : Type 0 where
+  pub findings : List FindingView
+  pub found : IsLint text policy findings
+  pub why : HasNoFix text findings ⊎ IsReadNoFurther policy text findings
+
+-- the last text of some rounds that begin with the old one, and the fixes of all of them; no round comes after it, or
+-- they are as many as may be
 pub record IsFixed (policy : Policy) (old new : List ℕ) (fixes : ℕ) : Type 0 where
   pub number : ℕ
   pub rounds : AreRounds policy old number new fixes
+  pub over : IsLast policy new ⊎ (number ≡ MOST_ROUNDS)

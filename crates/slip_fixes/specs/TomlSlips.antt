@@ -1,10 +1,10 @@
 -- What isn't TOML.
 use Rattle.std.specs.Prelude.{ℕ, Bool, true, false, not, ◌&&◌, ◌||◌, ◌==◌, List, [], ◌∷◌, codes, length, nat_lt, Option, Some, None, if◌then◌else◌}
-use Rattle.std.specs.Char.{is_ascii_digit, is_ascii_hexdigit}
+use Rattle.std.specs.Char.{is_ascii_hexdigit}
 use Rattle.std.specs.Str.{bytes_eq}
 use Rattle.base_text.specs.declared.keys.Field.{Field}
 use Rattle.base_text.specs.Fields.{field_name, is_digit_key}
-use Rattle.slip_fixes.specs.Bytes.{after_zeros, is_number}
+use Rattle.slip_fixes.specs.Bytes.{after_gaps, after_zeros, is_number}
 use Rattle.slip_fixes.specs.NearKeys.{all_fields}
 use Rattle.slip_fixes.specs.Values.{takes_number}
 
@@ -26,9 +26,9 @@ new_word key word =
     else if takes_number key || is_digit_key key then without_zeros word
     else None
 
--- two digits in base 16, and then what is none
+-- two digits in base 16, but not 00, and then what is none
 abbrev pub ends_pair : List ℕ → Bool
-ends_pair (a ∷ b ∷ c ∷ _) = is_ascii_hexdigit a && is_ascii_hexdigit b && not (is_ascii_hexdigit c)
+ends_pair (a ∷ b ∷ c ∷ _) = is_ascii_hexdigit a && is_ascii_hexdigit b && not (a == 48 && b == 48) && not (is_ascii_hexdigit c)
 ends_pair _ = false
 
 -- the same after two zeros
@@ -51,6 +51,11 @@ is_named (field ∷ fields) key = if bytes_eq (field_name field) key then true e
 abbrev pub is_known : List ℕ → Bool
 is_known key = is_named all_fields key
 
--- what takes the place of a colon after this key
-abbrev pub new_mark : List ℕ → Option (List ℕ)
-new_mark key = if is_digit_key key || is_known key then Some (codes " =") else None
+-- a value can begin here, and not `=`, a comment or the line's end
+abbrev pub is_value_start : List ℕ → Bool
+is_value_start [] = false
+is_value_start (b ∷ bs) = not (b == 61 || b == 35 || b == 13 || b == 10)
+
+-- what takes the place of a colon after this key and before these bytes
+abbrev pub new_mark : List ℕ → List ℕ → Option (List ℕ)
+new_mark key bs = if (is_digit_key key || is_known key) && is_value_start (after_gaps bs) then Some (codes " =") else None

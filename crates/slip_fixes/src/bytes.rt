@@ -3,7 +3,7 @@
 ghost use Rattle.std.specs.Prelude.{◌≡◌, false};
 ghost use Rattle.std.specs.List.{list_all};
 ghost use Rattle.std.specs.Char.{is_ascii_digit};
-ghost use Rattle.slip_fixes.specs.Bytes.{is_quote, is_gap, is_bare, ends_part, after_last, after_digits, after_zeros, last_run, after_bare, is_number, piece_of, are_blank, key_before, key_of_value, sets_value, run_before, leading_word};
+ghost use Rattle.slip_fixes.specs.Bytes.{is_quote, is_gap, is_bare, ends_part, after_last, after_digits, after_gaps, after_zeros, last_run, after_bare, is_number, piece_of, are_blank, key_before, key_of_value, sets_value, run_before, leading_word};
 
 /// What a part of a text is after.
 #[derive(Clone, Copy)]
@@ -96,6 +96,20 @@ pub fn after_zeros(bytes: &[u8]) -> &[u8]
     let mut rest = bytes;
     while let Some((first, tail)) = rest.split_first() {
         if *first != b'0' {
+            return rest;
+        }
+        rest = tail;
+    }
+    rest
+}
+
+/// What follows the blanks at the front.
+pub fn after_gaps(bytes: &[u8]) -> &[u8]
+    ensures { result.now ≡ after_gaps bytes.now }
+{
+    let mut rest = bytes;
+    while let Some((first, tail)) = rest.split_first() {
+        if !is_gap(*first) {
             return rest;
         }
         rest = tail;

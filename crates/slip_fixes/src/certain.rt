@@ -113,9 +113,9 @@ fn toml_fix(alloc: Global, text: &[u8], span: Span) -> Result<Option<Replacement
     let rest = piece_of(text, at, text.len());
     match rest.split_first() {
         None => word_fix(alloc, text, span),
-        Some((first, _)) => {
+        Some((first, others)) => {
             if *first == b':' {
-                replaced(alloc, at, at + 1, new_mark(key_before(text, at)))
+                replaced(alloc, at, at + 1, new_mark(key_before(text, at), others))
             } else if *first == b'u' || *first == b'U' {
                 replaced(alloc, at, at + 1, new_escape(rest))
             } else {

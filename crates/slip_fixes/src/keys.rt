@@ -1,7 +1,7 @@
 //! Keys that are one step from another.
 
 ghost use Rattle.std.specs.Prelude.{◌≡◌, IfOk};
-ghost use Rattle.slip_fixes.specs.NearKeys.{begin_alike, is_step_away, first_near, near_field};
+ghost use Rattle.slip_fixes.specs.NearKeys.{begin_alike, has_capitals, is_step_away, first_near, near_field};
 
 use base_text::Field;
 use lint_words::FIELDS;
@@ -18,12 +18,20 @@ fn begin_alike(one: &[u8], other: &[u8]) -> bool
     }
 }
 
-// Whether one step makes the key this name: a character more, less or another, or two swapped, but for the first.
+// Whether the key is this name with capital letters.
+fn has_capitals(key: &[u8], name: &[u8]) -> bool
+    ensures { result ≡ has_capitals key.now name.now }
+{
+    key != name && key.eq_ignore_ascii_case(name)
+}
+
+// Whether one step makes the key this name: a character more, less or another, or two swapped, but for the first; or small letters do.
 fn is_step_away(alloc: Global, key: &str, name: &str) -> Result<bool, AllocError>
     ensures { IfOk result (λ is. is ≡ is_step_away key.now name.now) }
 {
     let steps = osa_distance(alloc, key, name)?;
-    Ok(steps == 1 && begin_alike(key.as_bytes(), name.as_bytes()))
+    let is_step = steps == 1 && begin_alike(key.as_bytes(), name.as_bytes());
+    Ok(has_capitals(key.as_bytes(), name.as_bytes()) || is_step)
 }
 
 // The first of these keys that is one step away.

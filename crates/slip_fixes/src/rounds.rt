@@ -1,8 +1,8 @@
 //! Rounds of fixes: each makes all certain fixes of a text's findings, and reads what comes of it.
 
-ghost use Rattle.std.specs.Prelude.{◌≡◌, IfOk, IfSome};
-ghost use Rattle.slip_fixes.specs.Rounds.{fixes_of, reads_to, reads_further, IsNext, IsFixed};
-ghost use Rattle.slip_fixes.specs.Loops.{IsAdvanced};
+ghost use Rattle.std.specs.Prelude.{◌≡◌, IfNone, IfOk, IfSome};
+ghost use Rattle.slip_fixes.specs.Rounds.{fixes_of, reads_to, reads_further, HasNoFix, IsNext, IsFixed};
+ghost use Rattle.slip_fixes.specs.Loops.{AdvancesTo};
 
 use crate::certain::certain_fix;
 use checker::Policy;
@@ -76,13 +76,14 @@ fn reads_further(old: &[Finding], new: &[Finding]) -> bool
     }
 }
 
-// The text with the certain fixes of its findings made, and their number; `None` if there are none.
+// The text with the certain fixes of its findings made, and their number; `None` if none can be made.
 fn next_text(
     alloc: Global,
     text: &[u8],
     findings: &[Finding],
 ) -> Result<Option<(Vec<u8>, usize)>, AllocError>
-    ensures { IfOk result (λ next. IfSome next (λ n. IsNext text.now findings.now n.0.items n.1)) }
+    ensures made { IfOk result (λ next. IfSome next (λ n. IsNext text.now findings.now n.0.items n.1)) }
+    ensures none { IfOk result (λ next. IfNone next (HasNoFix text.now findings.now)) }
 {
     let fixes = fixes_of(alloc, text, findings)?;
     if fixes.is_empty() {
@@ -96,7 +97,7 @@ fn next_text(
 
 // The next text, if there is something to fix and TOML doesn't read less of it.
 fn advanced(alloc: Global, state: &Attempt, policy: &Policy) -> Result<Option<Attempt>, AllocError>
-    ensures { IfOk result (λ next. IfSome next (IsAdvanced policy.now state.now)) }
+    ensures { IfOk result (AdvancesTo policy.now state.now) }
 {
     let Some((text, fixes)) = next_text(alloc, state.text.as_slice(), state.findings.as_slice())?
     else {
@@ -129,7 +130,7 @@ pub fn fix_slips(alloc: Global, text: &[u8], policy: &Policy) -> Result<Fixed, A
         findings,
         fixes: 0,
     };
-    for _ in 0..MOST_ROUNDS {
+    for _made in 0..MOST_ROUNDS {
         match advanced(alloc, &state, policy)? {
             Some(next) => state = next,
             None => break,

@@ -2,9 +2,9 @@
 
 ghost use Rattle.std.specs.Prelude.{◌≡◌, option_map};
 ghost use Rattle.base_text.specs.Fields.{is_digit_key};
-ghost use Rattle.slip_fixes.specs.TomlSlips.{small_truth, without_zeros, new_word, ends_pair, ends_long, new_escape, is_named, is_known, new_mark};
+ghost use Rattle.slip_fixes.specs.TomlSlips.{small_truth, without_zeros, new_word, ends_pair, ends_long, new_escape, is_named, is_known, is_value_start, new_mark};
 
-use crate::bytes::{after_zeros, is_number};
+use crate::bytes::{after_gaps, after_zeros, is_number};
 use crate::value_slips::takes_number;
 use base_text::Field;
 use lint_words::FIELDS;
@@ -57,13 +57,16 @@ pub fn new_word<'t>(key: &[u8], word: &'t [u8]) -> Option<&'t [u8]>
     }
 }
 
-// Whether these begin with two digits in base 16, and then what is none.
+// Whether these begin with two digits in base 16, but not 00, and then what is none.
 fn ends_pair(bytes: &[u8]) -> bool
     ensures { result ≡ ends_pair bytes.now }
 {
     match bytes {
         [tens, ones, next, ..] => {
-            tens.is_ascii_hexdigit() && ones.is_ascii_hexdigit() && !next.is_ascii_hexdigit()
+            tens.is_ascii_hexdigit()
+                && ones.is_ascii_hexdigit()
+                && !(*tens == b'0' && *ones == b'0')
+                && !next.is_ascii_hexdigit()
         }
         _ => false,
     }
@@ -114,11 +117,21 @@ fn is_known(key: &[u8]) -> bool
     is_named(FIELDS, key)
 }
 
-/// What takes the place of a colon after this key.
-pub fn new_mark(key: &[u8]) -> Option<&'static [u8]>
-    ensures { option_map (λ text. text.now) result ≡ new_mark key.now }
+// Whether a value can begin here, and not `=`, a comment or the line's end.
+fn is_value_start(bytes: &[u8]) -> bool
+    ensures { result ≡ is_value_start bytes.now }
 {
-    if is_digit_key(key) || is_known(key) {
+    match bytes {
+        [first, ..] => { !(*first == b'=' || *first == b'#' || *first == b'\r' || *first == b'\n') }
+        _ => false,
+    }
+}
+
+/// What takes the place of a colon after this key and before these bytes.
+pub fn new_mark(key: &[u8], rest: &[u8]) -> Option<&'static [u8]>
+    ensures { option_map (λ text. text.now) result ≡ new_mark key.now rest.now }
+{
+    if (is_digit_key(key) || is_known(key)) && is_value_start(after_gaps(rest)) {
         Some(b" =")
     } else {
         None
