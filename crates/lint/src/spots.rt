@@ -198,6 +198,7 @@ pub(crate) fn written_value<'t>(table: &'t TableSpots<'_>, detail: &Detail) -> &
         Detail::WrongKind(field, _) => value_of(table, field.name()),
         Detail::UnknownKey(TableKind::Frame, key) => value_of(table, key.as_str()),
         Detail::WrongItem(Field::Routes, digit, _) => route_value(table, *digit),
+        Detail::WrongItem(Field::Outside, number, _) => listed_at(table, Field::Outside, *number),
         _ => None,
     };
     match span {

@@ -173,7 +173,7 @@ fn hints_go_by_the_value_as_it_is_written(rt: HostRuntime) -> Result<(), Fail> {
     let text =
         "entry = 1\noutside = [\"5a\", 7]\n[[frame]]\nid = \"1a\"\nroutes = { 9 = \"5a\" }\nrows = []\n";
     let lines =
-        "b.toml:2:12: error: X5 WrongKind: item 1 of \"outside\" is a string, a whole number is needed; leave out the quotation marks\n\
+        "b.toml:2:12: error: X5 WrongKind: item 1 of \"outside\" is a string, a whole number is needed; a page number has no letter: write 5\n\
         b.toml:5:12: error: X5 WrongKind: route 9 of frame 1a is a string, a whole number is needed; a page number has no letter: write 5\n";
     prints(rt.alloc(), text, &policy(9_999, 9, "")?, lines, (2, 0))
 }

@@ -131,7 +131,12 @@ fn brackets_and_headers_that_lack_one(rt: HostRuntime) -> Result<(), Fail> {
             "invalid key",
             "; { of line 1 is not closed",
         ),
-        (b"rows = [\n  \"A\"\n  \"B\",\n]\n", 17, NO_COMMA, ""),
+        (
+            b"rows = [\n  \"A\"\n  \"B\",\n]\n",
+            17,
+            NO_COMMA,
+            "; put a comma before it",
+        ),
         (b"a = { 0 = 1 }\nb =", 17, BAD_VALUE, ""),
     ];
     have_hints(rt.alloc(), &faults)
@@ -175,7 +180,12 @@ fn marks_and_words(rt: HostRuntime) -> Result<(), Fail> {
         (b"id = \"1a\nb = 1\n", 8, "invalid string", missing),
         (b"rows = [\"A, \"B\", \"\\\"\"]\n", 13, NO_COMMA, missing),
         (b"rows = [0612\", \"B\"]\n", 8, BAD_VALUE, missing),
-        (b"rows = [\"A\" \"\\\"B\"]\n", 12, NO_COMMA, ""),
+        (
+            b"rows = [\"A\" \"\\\"B\"]\n",
+            12,
+            NO_COMMA,
+            "; put a comma before it",
+        ),
         (
             b"id = \xE2\x80\x9C1a\xE2\x80\x9D\n",
             5,

@@ -193,7 +193,7 @@ fn near_keys_are_proposed(rt: HostRuntime) -> Result<(), Fail> {
         (
             TableKind::Frame,
             "PRICE",
-            "\"PRICE\" is not a key of a frame",
+            "\"PRICE\" is not a key of a frame; did you mean \"price\"?",
         ),
         (
             TableKind::Top,

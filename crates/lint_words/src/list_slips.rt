@@ -11,8 +11,21 @@ const LONGEST: usize = 60;
 // What is inside of one pair of brackets of any kind, or all of a value without them.
 fn inside(value: &[u8]) -> &[u8] {
     let value = value.trim_ascii();
-    match value {
+    let items = match value {
         [b'(' | b'{' | b'[', items @ .., b')' | b'}' | b']'] => items.trim_ascii(),
+        _ => value,
+    };
+    without_end(items).trim_ascii()
+}
+
+fn opens(byte: u8) -> bool {
+    matches!(byte, b'(' | b'{' | b'[')
+}
+
+// A value without the last bracket, if nothing opens it.
+fn without_end(value: &[u8]) -> &[u8] {
+    match value {
+        [front @ .., b')' | b'}' | b']'] if !front.iter().any(|byte| opens(*byte)) => front,
         _ => value,
     }
 }
@@ -20,7 +33,10 @@ fn inside(value: &[u8]) -> &[u8] {
 // The items of a value, if it is short and ends on its line.
 fn short_items(value: &[u8]) -> Option<&str> {
     let items = inside(value);
-    let is_open = matches!(items, [b'(' | b'{' | b'[', ..]) || matches!(items, [.., b',']);
+    let is_open = matches!(
+        items,
+        [b'(' | b'{' | b'[', ..] | [.., b','] | [b'"', b'"', b'"', ..] | [b'\'', b'\'', b'\'', ..]
+    );
     let is_short = !items.is_empty() && items.len() <= LONGEST;
     (is_short && !is_open && !items.contains(&b'#')).then_some(as_text(items))
 }

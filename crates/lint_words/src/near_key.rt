@@ -40,6 +40,9 @@ pub(crate) fn nearest(
     let mut search = Search::of(text);
     let mut found = None;
     for key in named_keys(table) {
+        if key.name().eq_ignore_ascii_case(text) {
+            return Ok(Some(*key));
+        }
         if search.offer(alloc, key.name())? {
             found = Some(*key);
         }

@@ -85,6 +85,8 @@ const SLIPS: &[Slip] = &[
     (NO_VALUE, Some(Field::Outside), Has(b'{'), "", List),
     (UNEXPECTED, Some(Field::Rows), Any, ",", List),
     (UNEXPECTED, Some(Field::Outside), Any, ",", List),
+    (UNEXPECTED, Some(Field::Rows), Any, "]", List),
+    (UNEXPECTED, Some(Field::Outside), Any, "]", List),
     (BAD_DATE, Some(Field::Outside), Any, "", Words(EACH_PAGE)),
     (BAD_VALUE, Some(Field::Routes), Has(b'{'), "", Joined),
     (BAD_VALUE, Some(Field::Routes), Has(b'.'), "", Joined),

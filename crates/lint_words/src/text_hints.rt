@@ -6,7 +6,7 @@ use crate::line::Line;
 use crate::near_bytes::{Class, run_len};
 use crate::near_key::{is_key, nearest};
 use crate::odd_chars::{mosaic_hint, odd_hint, odd_in};
-use crate::value_hints::{item_hint, kind_hint};
+use crate::value_hints::{ROUTES_IN_BRACES, item_hint, kind_hint};
 use crate::values::{MOST_DIGITS, first_number, is_number};
 use base_text::{Detail, Field, TableKind, TextFault};
 use std::alloc::{AllocError, Global};
@@ -76,7 +76,7 @@ fn plain_id_hint(text: &str) -> Hint<'_> {
 fn route_hint<'a>(digit: &'a str, value: &'a [u8]) -> Hint<'a> {
     match first_number(value) {
         Some(page) if is_number(value) => Hint::Routes(digit, page),
-        _ => Hint::Words("write routes in braces, as routes = { 0 = 1231 }"),
+        _ => ROUTES_IN_BRACES,
     }
 }
 

@@ -77,17 +77,21 @@ fn is_curly(rest: &[u8]) -> bool {
     matches!(rest, [0xE2, 0x80, 0x98..=0x9F, ..])
 }
 
-// What ends a value in other files, at the end of a line.
+// What ends a value in other files, at the end of a line or before another key.
 fn ending_hint(rest: &[u8], message: &str) -> Option<Hint<'static>> {
     let (mark, rest) = rest.split_first()?;
-    if message != UNEXPECTED || !ends_line(after(rest, Class::Blank)) {
+    if message != UNEXPECTED || !matches!(*mark, b',' | b';') {
+        return None;
+    }
+    let rest = after(rest, Class::Blank);
+    if begins_pair(rest) {
+        Some(Hint::Words("write each key on a line of its own"))
+    } else if !ends_line(rest) {
         None
     } else if *mark == b',' {
         Some(Hint::Words("leave out the comma at the line's end"))
-    } else if *mark == b';' {
-        Some(Hint::Words("leave out the ; at the line's end"))
     } else {
-        None
+        Some(Hint::Words("leave out the ; at the line's end"))
     }
 }
 
@@ -263,6 +267,11 @@ fn lacks_comma(rest: &[u8]) -> bool {
     !number.is_empty() && next.len() < blanks.len() && byte_at(next, 0).is_ascii_digit()
 }
 
+// Whether a text or a number begins.
+fn begins_item(rest: &[u8]) -> bool {
+    matches!(rest, [b'"' | b'\'' | b'0'..=b'9', ..])
+}
+
 // A word or number that is no value.
 fn bad_word_hint(field: Option<Field>, word: &[u8]) -> Option<Hint<'_>> {
     if is_answer(word) {
@@ -298,6 +307,8 @@ fn value_hint<'a>(text: &'a [u8], at: usize, message: &str) -> Option<Hint<'a>>
     let field = field_at(text, at);
     if field == Some(Field::Price) && (message == BAD_VALUE || message == UNEXPECTED) {
         Some(price_hint(rest_of_value(text, start.unwrap_or(0))))
+    } else if message == NO_COMMA && begins_item(rest) {
+        Some(Hint::Words("put a comma before it"))
     } else if message != BAD_VALUE || begins_pair(rest) {
         None
     } else if lacks_comma(rest) {

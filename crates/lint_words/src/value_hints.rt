@@ -3,12 +3,20 @@
 use crate::hint::Hint;
 use crate::list_slips::list_hint;
 use crate::odd_chars::odd_in;
-use crate::values::{MOST_DIGITS, as_text, first_number, is_number, page_of, pence_of, unquoted};
+use crate::values::{
+    MOST_DIGITS, as_text, first_number, is_number, only_number, page_of, pence_of, unquoted,
+};
 use base_text::{Field, ValueKind};
 
 const UNQUOTE: Hint<'static> = Hint::Words("leave out the quotation marks");
 
 const ENQUOTE: Hint<'static> = Hint::Words("put it in quotation marks");
+
+const ONE_TEXT: Hint<'static> = Hint::Words("write one text, without brackets");
+
+pub(crate) const ROUTES_IN_BRACES: Hint<'static> = Hint::Words(
+    "write routes in braces, as routes = { 0 = 1231 }",
+);
 
 const TRUE_OR_FALSE: Hint<'static> = Hint::Words("true or false, without quotation marks");
 
@@ -71,8 +79,29 @@ fn other_kind_hint(field: Field, kind: ValueKind) -> Option<Hint<'static>> {
     match (field, kind) {
         (Field::Next, ValueKind::String) => Some(TRUE_OR_FALSE),
         (Field::Frame, ValueKind::Table) => Some(Hint::Words("write [[frame]] with two brackets")),
-        (Field::Id | Field::Lead | Field::Body, _) => Some(ENQUOTE),
+        (Field::Body, ValueKind::Array) => Some(Hint::Words("write a list of texts as rows")),
+        (Field::Id | Field::Lead, ValueKind::Array) => Some(ONE_TEXT),
+        (Field::Lead, _) => Some(Hint::Words("write \"keep\" or \"clear\"")),
+        (Field::Id | Field::Body, _) => Some(ENQUOTE),
         _ => None,
+    }
+}
+
+// A value in place of the list of pages outside.
+fn outside_hint(kind: ValueKind, written: &[u8]) -> Option<Hint<'_>> {
+    let text = unquoted(written);
+    if kind != ValueKind::String || !text.contains(&b',') {
+        return Some(Hint::Outside(first_number(written)?));
+    }
+    let is_list = text.iter().all(|b| b.is_ascii_digit() || matches!(b, b',' | b' ' | b'[' | b']'));
+    Some(list_hint(if is_list { text } else { b"" }))
+}
+
+// A value in place of routes: one number is the page of a route.
+fn routes_hint(written: &[u8]) -> Option<Hint<'_>> {
+    match only_number(written) {
+        Some(page) => Some(Hint::Routes("0", page)),
+        None => Some(ROUTES_IN_BRACES),
     }
 }
 
@@ -80,11 +109,11 @@ fn other_kind_hint(field: Field, kind: ValueKind) -> Option<Hint<'static>> {
 pub(crate) fn kind_hint(field: Field, kind: ValueKind, written: &[u8]) -> Option<Hint<'_>> {
     match field {
         Field::Entry | Field::Price | Field::Group => number_kind_hint(field, kind, written),
-        Field::Outside if has_pages(kind) => Some(Hint::Outside(first_number(written)?)),
+        Field::Outside if has_pages(kind) => outside_hint(kind, written),
         Field::Routes if written.starts_with(b"[[frame") => {
             Some(Hint::Words("write [frame.routes], with one pair of brackets"))
         }
-        Field::Routes if has_pages(kind) => Some(Hint::Routes("0", first_number(written)?)),
+        Field::Routes if has_pages(kind) => routes_hint(written),
         Field::Rows if kind == ValueKind::String => Some(list_hint(written)),
         Field::Id if kind == ValueKind::Integer => Some(page_id_hint(written)),
         _ => other_kind_hint(field, kind),
@@ -94,7 +123,7 @@ pub(crate) fn kind_hint(field: Field, kind: ValueKind, written: &[u8]) -> Option
 // An item of another kind.
 pub(crate) fn item_hint(field: Field, kind: ValueKind, written: &[u8]) -> Option<Hint<'_>> {
     match (field, kind) {
-        (Field::Outside, ValueKind::String) => Some(UNQUOTE),
+        (Field::Outside, ValueKind::String) => number_hint(field, written),
         (Field::Routes, ValueKind::String) => match page_of(written) {
             Some(page) => Some(Hint::PageAlone(page)),
             None => Some(Hint::Words("write the page number alone, without quotation marks")),

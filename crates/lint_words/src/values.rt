@@ -102,11 +102,12 @@ fn pence_of_pounds(amount: &[u8]) -> Option<u32> {
     Some(pounds.saturating_mul(100).saturating_add(pence))
 }
 
-// The price that was probably meant by `15p`, `£0.15`, `0.15` or `1,500`, in pence.
+// The price that was probably meant by `15p`, `£0.15`, `0.15` or `1,500`, in pence; none by `0.5p`.
 pub(crate) fn pence_of(written: &[u8]) -> Option<u32> {
     let amount = unquoted(written);
-    let amount = amount.strip_suffix(b"p").unwrap_or(amount);
-    let pence = if let Some(pounds) = amount.strip_prefix(b"\xC2\xA3") {
+    let pence = if let Some(pence) = amount.strip_suffix(b"p") {
+        number_of(pence)?
+    } else if let Some(pounds) = amount.strip_prefix(b"\xC2\xA3") {
         pence_of_pounds(pounds)?
     } else if amount.contains(&b'.') {
         pence_of_pounds(amount)?
@@ -124,10 +125,22 @@ pub(crate) fn page_of(written: &[u8]) -> Option<&str> {
     (!page.is_empty() && has_letters).then_some(as_text(page))
 }
 
-// The first number in a value, as of `[6203]`.
-pub(crate) fn first_number(written: &[u8]) -> Option<&str> {
+// The digits from the first one on, and what follows them.
+fn split_number(written: &[u8]) -> (&[u8], &[u8]) {
     let start = written.iter().take_while(|b| !b.is_ascii_digit()).count();
     let rest = &written[start..];
-    let number = &rest[..run_len(rest, Class::Digit)];
+    rest.split_at(run_len(rest, Class::Digit))
+}
+
+// The first number in a value, as of `[6203]`.
+pub(crate) fn first_number(written: &[u8]) -> Option<&str> {
+    let (number, _) = split_number(written);
     (!number.is_empty()).then_some(as_text(number))
+}
+
+// The number in a value that has one.
+pub(crate) fn only_number(written: &[u8]) -> Option<&str> {
+    let (number, rest) = split_number(written);
+    let is_alone = !rest.iter().any(|b| b.is_ascii_digit());
+    (!number.is_empty() && is_alone).then_some(as_text(number))
 }
