@@ -89,8 +89,8 @@ fn fix_path<R: Files + Input + Print + AllocGlobal>(
     asked: &Lint,
     how: &LintReport,
 ) -> Result<Sum, Unfinished> {
-    let fixed = match fixed_text(rt, path, &asked.policy) {
-        Ok((_, fixed)) => fixed,
+    let (base, fixed) = match fixed_text(rt, path, &asked.policy) {
+        Ok(texts) => texts,
         Err(unfinished) => return Err(unfinished),
     };
     let text = fixed.text.as_slice();
@@ -102,7 +102,7 @@ fn fix_path<R: Files + Input + Print + AllocGlobal>(
     } else if fixed.fixes == 0 {
         lint_text(rt.alloc(), io::writer(rt), path, text, asked, how)
     } else {
-        match replace_text(rt, path, text) {
+        match replace_text(rt, path, &base, text) {
             Ok(()) => lint_text(rt.alloc(), io::writer(rt), path, text, asked, how),
             Err(unfinished) => Err(unfinished),
         }

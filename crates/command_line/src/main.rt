@@ -371,12 +371,12 @@ fn audit_to<R: Files + Input + Print + AllocGlobal>(
             let mut cert = IntoWrite::new(io::writer(&errors));
             run_audit_into(rt.alloc(), &mut base, &mut cert, &mut output, policy)
         }
-        Out::File(names, file) => {
+        Out::File(names, mut file) => {
             let run = {
-                let mut cert = IntoWrite::new(file);
+                let mut cert = IntoWrite::new(&mut file);
                 run_audit_into(rt.alloc(), &mut base, &mut cert, &mut output, policy)
             };
-            names.close(rt, run, &Status::Clear)
+            names.close(rt, file, run, &Status::Clear)
         }
     }
 }

@@ -1,7 +1,7 @@
 //! `import --into`: the frames of screens in a base's file.
 
 use crate::fail;
-use crate::fix_files::{print_text, read_text, replace_text};
+use crate::fix_files::{BaseFile, print_text, read_text, replace_text};
 use crate::import_files::path_of;
 use crate::reports::report;
 use audit_report::RunFault;
@@ -91,16 +91,16 @@ fn show_diff<R: Files + Print + Eprint + AllocGlobal>(
 fn write_merged<R: Files + Print + Eprint + AllocGlobal>(
     rt: &R,
     base: &str,
-    old: &[u8],
+    old: &BaseFile,
     merged: &Merged,
 ) -> u8 {
     let new = merged.text.as_slice();
     let written = if is_input(base) {
         print_text(rt, new)
-    } else if new == old {
+    } else if new == old.text.as_slice() {
         Ok(())
     } else {
-        replace_text(rt, base, new)
+        replace_text(rt, base, old, new)
     };
     match written {
         Ok(()) => {
@@ -128,6 +128,9 @@ fn report_merge<R: Files + Eprint + AllocGlobal>(
     fault: MergeFault,
 ) -> u8 {
     match fault {
+        MergeFault::Unread(fault) if fault.cause == BaseCause::Memory => {
+            report(rt, base, &Unfinished::Fault(RunFault::Memory))
+        }
         MergeFault::Unread(fault) => report(rt, base, &Unfinished::Fault(RunFault::Base(fault))),
         MergeFault::Spoilt(fault) => report_spoilt(rt, base, fault),
         MergeFault::TooLong(file) => {
@@ -154,12 +157,13 @@ pub fn import_into<R: Files + Input + Print + Eprint + AllocGlobal>(
     settled: &Settled,
 ) -> u8 {
     let old = match read_text(rt, base) {
-        Ok(text) => text,
+        Ok(old) => old,
         Err(unfinished) => return report(rt, base, &unfinished),
     };
-    match merge_frames(rt.alloc(), old.as_slice(), asked.guesses, settled) {
-        Ok(merged) if asked.is_shown => show_diff(rt, base, old.as_slice(), &merged),
-        Ok(merged) => write_merged(rt, base, old.as_slice(), &merged),
+    let text = old.text.as_slice();
+    match merge_frames(rt.alloc(), text, asked.guesses, settled) {
+        Ok(merged) if asked.is_shown => show_diff(rt, base, text, &merged),
+        Ok(merged) => write_merged(rt, base, &old, &merged),
         Err(fault) => report_merge(rt, base, asked, fault),
     }
 }

@@ -66,12 +66,12 @@ fn pages_to<R: Files + Input + Print + AllocGlobal>(
             let run = write_to(rt, base, asked, name, &mut output);
             ended(run, &output)
         }
-        Out::File(names, file) => {
+        Out::File(names, mut file) => {
             let run = {
-                let mut output = IntoWrite::new(file);
+                let mut output = IntoWrite::new(&mut file);
                 write_to(rt, base, asked, name, &mut output)
             };
-            match names.close(rt, run, &PagesStatus::Written) {
+            match names.close(rt, file, run, &PagesStatus::Written) {
                 Ok(status) => Ok(status),
                 Err(fault) => Err(Unfinished::Fault(fault)),
             }

@@ -89,12 +89,12 @@ fn show_to<R: Files + Input + Print + AllocGlobal>(
             let run = run_show(rt.alloc(), &mut base, groups, target, form, &mut output);
             ended(run, &output)
         }
-        Out::File(names, file) => {
+        Out::File(names, mut file) => {
             let run = {
-                let mut output = IntoWrite::new(file);
+                let mut output = IntoWrite::new(&mut file);
                 run_show(rt.alloc(), &mut base, groups, target, form, &mut output)
             };
-            match names.close(rt, run, &ShowStatus::Shown) {
+            match names.close(rt, file, run, &ShowStatus::Shown) {
                 Ok(status) => Ok(status),
                 Err(fault) => Err(Unfinished::Fault(fault)),
             }

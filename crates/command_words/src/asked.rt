@@ -145,6 +145,11 @@ fn lint_of<'a>(words: &'a ArgMatches, groups: Groups) -> Option<Request<'a>> {
             why: "only one BASE can be standard input",
         });
     }
+    if bases.len() > 1 && bases.contains(&"-") && fixing_of(words) == Fixing::Made {
+        return Some(Request::Misused {
+            why: "--fix of standard input takes no other BASE",
+        });
+    }
     Some(Request::Lint(Lint {
         bases,
         format: words.get_str("format").and_then(format_of)?,

@@ -240,7 +240,11 @@ impl<'a, R: Files + AllocGlobal + Clone + Drop> EditionStore for FolderFiles<'a,
     ) -> Result<(), StoreFault> {
         match put_edition(self.rt, alloc, self.path, number, edition) {
             Ok(()) => Ok(()),
-            Err(error) => Err(self.fault_at(alloc, "editions", &error)),
+            Err(error) => {
+                // a full disk isn't left full; what can't be removed the next publish removes
+                let _ = remove_editions_parts(self.rt, alloc, self.path);
+                Err(self.fault_at(alloc, "editions", &error))
+            }
         }
     }
 

@@ -5,7 +5,8 @@
 //!
 //! - [`Unfinished`], [`unread`], [`unwritten`], [`ended`]: why a command ends without its work done.
 //! - [`open`], [`open_base`], [`Opened`], [`is_input`], [`path_to`], [`is_folder`], [`is_certificate`]: what a path names.
-//! - [`Out`], [`OutFile`], [`open_out`], [`named_out`], [`new_beside`], [`is_same_file`]: the file that `--out` names.
+//! - [`Out`], [`OutFile`], [`open_out`], [`named_out`], [`followed`], [`new_beside`], [`is_same_file`], [`Seen`], [`seen_at`]: the
+//!   file that `--out` names.
 //! - [`FolderFiles`], [`path_in`], [`edition_path`], [`flush_folder`], [`write_policy`]: a folder of editions.
 //! - [`diff_text`], [`diff_of_edits`]: how a text changes. [`shows_colours`]: whether standard output shows colours.
 #![tactic(auto)]
@@ -24,5 +25,7 @@ pub use opening::{
     Opened, Unfinished, ended, is_certificate, is_folder, is_input, open, open_base, path_to,
     unread, unwritten,
 };
-pub use out_file::{Out, OutFile, is_same_file, named_out, new_beside, open_out};
+pub use out_file::{
+    Out, OutFile, Seen, followed, is_same_file, named_out, new_beside, open_out, seen_at,
+};
 pub use terminal::shows_colours;

@@ -82,6 +82,7 @@ pub fn unwritten(error: &io::Error) -> Unfinished {
         io::ErrorKind::NotADirectory => Unfinished::Unwritten("not a directory"),
         io::ErrorKind::IsADirectory => Unfinished::Unwritten("is a directory"),
         io::ErrorKind::StorageFull => Unfinished::Unwritten("no space left"),
+        io::ErrorKind::ReadOnlyFilesystem => Unfinished::Unwritten("read-only file system"),
         _ => Unfinished::Unwritten("can't be written"),
     }
 }

@@ -4,7 +4,7 @@
 
 use crate::opening::{Unfinished, unwritten};
 use audit_report::RunFault;
-use std::fs::{File, Metadata, OpenOptions};
+use std::fs::{File, Metadata, OpenFile, OpenOptions};
 use std::os::unix::fs::MetadataExt;
 use std::path::PathBuf;
 use std::rt::Files;
@@ -33,6 +33,28 @@ const MOST_LINKS: usize = 40;
 
 fn are_same(one: &Metadata, other: &Metadata) -> bool {
     one.dev() == other.dev() && one.ino() == other.ino()
+}
+
+/// A file as it was at a time: another one in its place, or one that was written, is another.
+#[derive(Debug, Clone, Copy, PartialEq, Eq)]
+pub struct Seen {
+    device: u64,
+    node: u64,
+    size: u64,
+    seconds: i64,
+    nanoseconds: i64,
+}
+
+/// The file that a path leads to, as it is now; `None` if there is none.
+pub fn seen_at<R: Files>(rt: &R, path: &str) -> Option<Seen> {
+    let there = fs::metadata(rt, path).ok()?;
+    Some(Seen {
+        device: there.dev(),
+        node: there.ino(),
+        size: there.size(),
+        seconds: there.mtime(),
+        nanoseconds: there.mtime_nsec(),
+    })
 }
 
 // Whether a path leads to a file. A path that leads nowhere doesn't.
@@ -66,8 +88,8 @@ fn target_of<R: Files + AllocGlobal>(rt: &R, link: &str, target: &str) -> io::Re
     Ok(folder.as_path().join(rt.alloc(), target)?)
 }
 
-// The path that a path leads to through links. There need not be such a file yet.
-fn followed<R: Files + AllocGlobal>(rt: &R, path: &str) -> io::Result<PathBuf> {
+/// The path that a path leads to through links. There need not be such a file yet.
+pub fn followed<R: Files + AllocGlobal>(rt: &R, path: &str) -> io::Result<PathBuf> {
     let mut path = PathBuf::from_str(rt.alloc(), path)?;
     for _ in 0..MOST_LINKS {
         match fs::read_link(rt, &path) {
@@ -99,13 +121,11 @@ pub fn new_beside<R: Files + AllocGlobal>(rt: &R, path: &str) -> io::Result<(Str
 // Opens a new file beside one that is there, with its permissions, or beside a place where there is none yet.
 fn open_beside<R: Files + AllocGlobal>(
     rt: &R,
-    path: &str,
+    asked: &str,
     there: Option<&Metadata>,
 ) -> io::Result<Out<R::File>> {
-    let path = followed(rt, path)?;
-    if let Some(there) = there
-        && !leads_to(rt, path.as_path().as_str(), there)
-    {
+    let path = followed(rt, asked)?;
+    if there.is_some() && !is_same_file(rt, asked, path.as_path().as_str()) {
         return Err(io::Error::from(io::ErrorKind::NotFound));
     }
     let (name, file) = new_beside(rt, path.as_path().as_str())?;
@@ -160,11 +180,12 @@ pub fn named_out<R: Files + AllocGlobal>(
 }
 
 impl OutFile {
-    /// Gives the text its name if the run ended with the status that says it was written whole; else nothing of it is left. Call
-    /// it when the file is closed.
+    /// Closes the file, and gives the text its name if the run ended with the status that says it was written whole, and it is on the
+    /// disk; else nothing of it is left.
     pub fn close<R: Files, T: PartialEq + Drop>(
         self,
         rt: &R,
+        file: R::File,
         run: Result<T, RunFault>,
         whole: &T,
     ) -> Result<T, RunFault> {
@@ -172,7 +193,10 @@ impl OutFile {
             return run;
         };
         let is_whole = matches!(&run, Ok(status) if status == whole);
-        if is_whole && fs::rename(rt, name.as_str(), path).is_ok() {
+        // a network's disk may refuse only now what it can't hold
+        let is_kept = is_whole && file.sync_all().is_ok();
+        drop(file);
+        if is_kept && fs::rename(rt, name.as_str(), path).is_ok() {
             return run;
         }
         let _ = fs::remove_file(rt, name.as_str());
