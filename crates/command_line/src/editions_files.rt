@@ -12,8 +12,9 @@ use std::fs::File;
 use std::rt::Files;
 use std::{fs, io};
 
-// Takes the lock of a folder, and waits while a publish holds it. A copy of a folder may have none: nobody publishes into it.
-fn share_lock<R: Files<File = File>>(
+/// Takes the lock of a folder to read in it, and waits while a publish holds it. A copy of a folder may have none: nobody publishes into
+/// it.
+pub fn share_lock<R: Files<File = File>>(
     rt: &R,
     alloc: Global,
     folder: &str,

@@ -2,14 +2,15 @@
 
 ghost use Rattle.std.specs.Prelude.{true, false};
 
+use crate::editions_files::{share_lock, shut};
 use crate::lint_files::print_counts;
 use crate::pages_file::{name_of, pages_of};
 use crate::reports::report;
 use audit_report::{FromRead, IntoWrite, RunFault};
 use command_words::{Pages, Publish as Asked};
 use disk_files::{
-    FolderFiles, Unfinished, flush_folder, is_same_file, open_base, path_in, path_to, unwritten,
-    write_policy,
+    FolderFiles, Opened, Unfinished, flush_folder, followed, is_same_file, open_base, path_in,
+    path_to, unwritten, write_policy,
 };
 use editions::{EditionFile, EditionFolder};
 use pageaudit::View;
@@ -31,7 +32,7 @@ enum Found {
     Old,
     // It was made now, with a policy of the widest limits.
     Made,
-    // It isn't there, and in a dry run it isn't made.
+    // It isn't there, or it is new, and in a dry run nothing is made.
     Missing,
 }
 
@@ -49,14 +50,12 @@ fn shut_by(name: &'static str, error: &io::Error) -> Shut {
     }
 }
 
-// Opens the file of the lock; it is made if it isn't there.
+// Opens the file of the lock; it is made if it isn't there. A network's file system locks only what is open for writing; who may only
+// read the file can lock it elsewhere.
 fn open_lock<R: Files>(rt: &R, path: &str) -> io::Result<R::File> {
-    match fs::open(rt, path) {
-        Err(error) if error.kind() == io::ErrorKind::NotFound => OpenOptions::new()
-            .write(true)
-            .create(true)
-            .open(rt, path),
-        opened => opened,
+    match OpenOptions::new().write(true).create(true).open(rt, path) {
+        Ok(file) => Ok(file),
+        Err(error) => fs::open(rt, path).map_err(|_| error),
     }
 }
 
@@ -141,19 +140,40 @@ struct Locked {
     found: Found,
 }
 
-// Opens a folder under its lock.
-fn open_folder<R: Files<File = File>>(
+// Opens a folder for a dry run, which makes nothing in it: a new one is as one that isn't there.
+fn open_unchanged<R: Files<File = File>>(
     rt: &R,
     alloc: Global,
     folder: &str,
-    dry_run: bool,
 ) -> Result<Locked, Shut> {
-    if dry_run && !fs::symlink_metadata(rt, folder).is_ok() {
+    if !fs::symlink_metadata(rt, folder).is_ok() {
         return Ok(Locked {
             lock: None,
             found: Found::Missing,
         });
     }
+    if let Some(why) = shut(rt, folder) {
+        return Err(Shut { name: "", why });
+    }
+    let lock = match share_lock(rt, alloc, folder) {
+        Ok(lock) => lock,
+        Err(error) => return Err(shut_by("lock", &error)),
+    };
+    match is_new(rt, alloc, folder) {
+        Ok(true) => Ok(Locked {
+            lock,
+            found: Found::Missing,
+        }),
+        Ok(false) => Ok(Locked {
+            lock,
+            found: Found::Old,
+        }),
+        Err(error) => Err(shut_by("policy.toml", &error)),
+    }
+}
+
+// Opens a folder under its lock.
+fn open_folder<R: Files<File = File>>(rt: &R, alloc: Global, folder: &str) -> Result<Locked, Shut> {
     match make_folder(rt, folder) {
         Ok(()) => {}
         Err(shut) => return Err(shut),
@@ -162,12 +182,6 @@ fn open_folder<R: Files<File = File>>(
         Ok(lock) => Some(lock),
         Err(error) => return Err(shut_by("lock", &error)),
     };
-    if dry_run {
-        return Ok(Locked {
-            lock,
-            found: Found::Old,
-        });
-    }
     match make_policy(rt, alloc, folder) {
         Ok(found) => Ok(Locked { lock, found }),
         Err(error) => Err(shut_by("policy.toml", &error)),
@@ -263,6 +277,43 @@ fn report_fault<'a, R: Files + Eprint + AllocGlobal>(
     }
 }
 
+// The whole path of the file that is written at a path. There need not be such a file yet.
+fn leading_to<R: Files + AllocGlobal>(rt: &R, path: &str) -> io::Result<PathBuf> {
+    let file = followed(rt, path)?;
+    let path = file.as_path().as_str();
+    let folder = fs::canonicalize(rt, parent(path))?;
+    Ok(folder.as_path().join(rt.alloc(), name_of(path))?)
+}
+
+// Whether a path leads to one of the folder's own files, or into its editions.
+fn leads_into<R: Files + AllocGlobal>(rt: &R, folder: &str, path: &str) -> io::Result<bool> {
+    let folder = fs::canonicalize(rt, folder)?;
+    let file = leading_to(rt, path)?;
+    let editions = folder.as_path().join(rt.alloc(), "editions")?;
+    if file.as_path().starts_with(editions.as_path().as_str()) {
+        return Ok(true);
+    }
+    for name in OWN_FILES {
+        let own = folder.as_path().join(rt.alloc(), name)?;
+        if own.as_path().as_str() == file.as_path().as_str() {
+            return Ok(true);
+        }
+    }
+    Ok(false)
+}
+
+// Whether a page would be one of the folder's own files. What leads nowhere yet isn't one now, nor is an open file of /dev.
+fn is_of_folder<R: Files + AllocGlobal>(rt: &R, folder: &str, page: &str) -> io::Result<bool> {
+    match leads_into(rt, folder, page) {
+        Err(error)
+            if matches!(
+                error.kind(),
+                io::ErrorKind::NotFound | io::ErrorKind::PermissionDenied
+            ) => { Ok(false) }
+        known => known,
+    }
+}
+
 // Writes the base of an edition for a browser, by the edition's policy; the exit status.
 fn write_page<'a, R: Files + Input + Print + Eprint + AllocGlobal>(
     rt: &R,
@@ -294,7 +345,10 @@ fn write_page<'a, R: Files + Input + Print + Eprint + AllocGlobal>(
     pages_of(rt, errors, &whole, name_of(asked.base))
 }
 
-// Writes the page that is asked for, of the edition that is served now; the exit status.
+// Why a page isn't written once its edition is there.
+const OF_FOLDER: Unfinished = Unfinished::Unwritten("is one of the folder's own files");
+
+// Writes the page that is asked for, of the edition that is served now, whose files are there by now; the exit status.
 fn page_after<'a, R: Files + Input + Print + Eprint + AllocGlobal>(
     rt: &R,
     errors: Stderr,
@@ -304,7 +358,11 @@ fn page_after<'a, R: Files + Input + Print + Eprint + AllocGlobal>(
 ) -> u8 {
     match (asked.page, status) {
         (Some(page), PublishStatus::Published(number) | PublishStatus::AlreadyServed(number)) => {
-            write_page(rt, errors, asked, page, store, number)
+            match is_of_folder(rt, asked.folder, page) {
+                Ok(false) => write_page(rt, errors, asked, page, store, number),
+                Ok(true) => report(rt, page, &OF_FOLDER),
+                Err(error) => report(rt, page, &unwritten(&error)),
+            }
         }
         _ => status_of_publish(&Ok(status)),
     }
@@ -316,14 +374,12 @@ fn publish_into<R: Files + Input + Print + Eprint + AllocGlobal + Clone + Drop>(
     errors: Stderr,
     asked: &Asked<'_>,
     found: Found,
+    base: Opened<R::File, R::Reader>,
 ) -> u8 {
     let Ok(policy_path) = path_in(rt.alloc(), asked.folder, "policy.toml") else {
         return report(rt, asked.folder, &MEMORY);
     };
-    let mut base = match open_base(rt, asked.base) {
-        Ok(file) => FromRead::new(file),
-        Err(unfinished) => return report(rt, asked.base, &unfinished),
-    };
+    let mut base = FromRead::new(base);
     let mut store = FolderFiles::locked(rt, asked.folder, found == Found::Missing);
     let mut out = IntoWrite::new(io::writer(rt));
     let run = run_publish(
@@ -350,32 +406,17 @@ fn publish_into<R: Files + Input + Print + Eprint + AllocGlobal + Clone + Drop>(
     }
 }
 
-// What a path leads to. There need not be such a file yet.
-fn leading_to<R: Files + AllocGlobal>(rt: &R, path: &str) -> io::Result<PathBuf> {
-    match fs::canonicalize(rt, path) {
-        Ok(whole) => Ok(whole),
-        Err(_) => {
-            let folder = fs::canonicalize(rt, parent(path))?;
-            Ok(folder.as_path().join(rt.alloc(), name_of(path))?)
+// Says why a page can't be written at the path that is asked for, before the run; the exit status.
+fn refused_page<R: Files + Eprint + AllocGlobal>(rt: &R, asked: &Asked<'_>) -> Option<u8> {
+    let page = asked.page?;
+    match is_of_folder(rt, asked.folder, page) {
+        Ok(false) => None,
+        Ok(true) => {
+            let _ = eprintln!(rt; "error: --page names one of the folder's own files");
+            Some(2)
         }
+        Err(error) => Some(report(rt, page, &unwritten(&error))),
     }
-}
-
-// Whether a path leads to one of the folder's own files, or into its editions.
-fn is_of_folder<R: Files + AllocGlobal>(rt: &R, folder: &str, path: &str) -> io::Result<bool> {
-    let folder = fs::canonicalize(rt, folder)?;
-    let file = leading_to(rt, path)?;
-    let editions = folder.as_path().join(rt.alloc(), "editions")?;
-    if file.as_path().starts_with(editions.as_path().as_str()) {
-        return Ok(true);
-    }
-    for name in OWN_FILES {
-        let own = folder.as_path().join(rt.alloc(), name)?;
-        if own.as_path().as_str() == file.as_path().as_str() {
-            return Ok(true);
-        }
-    }
-    Ok(false)
 }
 
 /// Publishes a base into a folder, which is made if it isn't there; the exit status.
@@ -390,23 +431,29 @@ pub fn publish<R: Files<File = File> + Input + Print + Eprint + AllocGlobal + Cl
         let _ = eprintln!(rt; "error: --page names the base itself");
         return 2;
     }
-    let Locked { lock, found } = match open_folder(rt, rt.alloc(), asked.folder, asked.dry_run) {
+    let base = match open_base(rt, asked.base) {
+        Ok(base) => base,
+        Err(unfinished) => return report(rt, asked.base, &unfinished),
+    };
+    let opened = if asked.dry_run {
+        open_unchanged(rt, rt.alloc(), asked.folder)
+    } else {
+        open_folder(rt, rt.alloc(), asked.folder)
+    };
+    let Locked { lock, found } = match opened {
         Ok(locked) => locked,
         Err(Shut { name, why }) => return report_in(rt, asked.folder, name, &why),
     };
-    if let Some(page) = asked.page
-        && matches!(is_of_folder(rt, asked.folder, page), Ok(true))
-    {
-        let _ = eprintln!(rt; "error: --page names one of the folder's own files");
-        return 2;
-    }
     if found == Found::Made {
         let _ = eprintln!(rt;
             "{}/policy.toml is new, with the widest limits: write the centre's ceiling and keyings there",
             asked.folder
         );
     }
-    let status = publish_into(rt, errors, asked, found);
+    let status = match refused_page(rt, asked) {
+        Some(status) => status,
+        None => publish_into(rt, errors, asked, found, base),
+    };
     drop(lock);
     status
 }
