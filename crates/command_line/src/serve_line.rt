@@ -6,14 +6,20 @@ use audit_report::{Broken, Sink, Source};
 use std::io;
 use std::io::{ErrorKind, Read, Write};
 
+// EIO, which a terminal answers once its line is cut.
+const LINE_CUT: i32 = 5;
+
 // Whether an error says that the caller has rung off.
 fn is_rung_off(error: &io::Error) -> bool {
     match error.kind() {
         ErrorKind::BrokenPipe
         | ErrorKind::ConnectionReset
         | ErrorKind::ConnectionAborted
+        | ErrorKind::HostUnreachable
+        | ErrorKind::NetworkDown
+        | ErrorKind::NetworkUnreachable
         | ErrorKind::TimedOut => true,
-        _ => false,
+        _ => error.raw_os_error() == Some(LINE_CUT),
     }
 }
 
