@@ -3,7 +3,7 @@ it.
 """
 
 import re
-from collections.abc import Container, Iterable
+from collections.abc import Container, Iterable, Sequence
 from typing import NamedTuple
 
 from .base import MOST_BYTES, MOST_LISTED, Answer, FrameId
@@ -25,7 +25,7 @@ SHEET_ROW = re.compile(rb"OL,\x20*([0-9]{1,2})\x20*(?:,(.*))?", re.DOTALL)
 SHEET_NUMBER = re.compile(rb"PN,([1-9][0-9]{2})([0-9]{2})?")
 SHEET_CELL = re.compile(rb"\x1b[\x40-\x5f]|.", re.DOTALL)
 PAGE_NUMBER = re.compile(r":PN=([1-9][0-9]{2})([0-9]{2})?(?![A-Za-z0-9_+/-])")
-WAYS_TO_NAME = "write it before the address, e.g. 100a https://.., or in TTI as PN,10001"
+WAYS_TO_NAME = "write it before the address, e.g. 100a https://.., or in TTI as PN,10001 to PN,10026"
 ESCAPED = {ord('"'): '\\"', ord("\\"): "\\\\"}
 
 
@@ -85,7 +85,7 @@ def cells_of(data: bytes) -> bytes:
         return saved_rows(data[:960])
     if data[:2] == b"\xfe\x01" and size in (968, 1008):
         return saved_rows(data[6:966])
-    sizes = "a screen has 960, 1000, 1024 or 880 bytes, an EP1 file 968 or 1008"
+    sizes = "a screen has 960, 1000, 1024 or 880 bytes, an EP1 file begins FE 01 and has 968 or 1008"
     raise NoScreen(f"size {size}; {sizes}; TTI and addresses are text; a capture of a call needs --stream")
 
 
@@ -441,13 +441,24 @@ class Reading:
         return f"{screen.path}: at byte {screen.offset}: {other}\n"
 
 
-def files_in(folder: str, files: Iterable[tuple[str, bytes | str]]) -> list[tuple[str, bytes | str]]:
-    """What stands for a folder: its files, by name, or the reason why there are none."""
+def files_in(folder: str, files: Sequence[tuple[str, bytes | str]]) -> list[tuple[str, bytes | str]]:
+    """What a folder gives: its files, by name; last the reason why there are none, or not all."""
     found: list[tuple[str, bytes | str]] = []
     for path, data in sorted(files, key=lambda file: file[0]):
-        if isinstance(data, bytes) and not is_hidden(path):
+        if isinstance(data, bytes) and is_utf_8(path) and not is_hidden(path):
             found.append((path, data))
+    if not all(is_utf_8(path) for path, _ in files):
+        return [*found, (folder, "a file's name in it isn't UTF-8")]
     return found or [(folder, "no files in this folder")]
+
+
+def is_utf_8(path: str) -> bool:
+    """Python gives each byte that isn't a code point of its own that can't be encoded."""
+    try:
+        path.encode()
+    except UnicodeEncodeError:
+        return False
+    return True
 
 
 def is_hidden(path: str) -> bool:

@@ -121,13 +121,13 @@ fn report_screen<R: Eprint>(rt: &R, path: &str, fault: ScreenFault) {
         ScreenFault::TooLong => eprintln!(rt; "{path}: more than 16,777,216 bytes"),
         ScreenFault::Size(size) => {
             eprintln!(rt;
-                "{path}: size {size}; a screen has 960, 1000, 1024 or 880 bytes, an EP1 file 968 or 1008; TTI and addresses are text; a capture of a call needs --stream"
+                "{path}: size {size}; a screen has 960, 1000, 1024 or 880 bytes, an EP1 file begins FE 01 and has 968 or 1008; TTI and addresses are text; a capture of a call needs --stream"
             )
         }
         ScreenFault::Text(at) => return report_line(rt, path, at),
         ScreenFault::NoIdAt(line) => {
             eprintln!(rt;
-                "{path}:{line}: no frame id: write it before the address, e.g. 100a https://.., or in TTI as PN,10001"
+                "{path}:{line}: no frame id: write it before the address, e.g. 100a https://.., or in TTI as PN,10001 to PN,10026"
             )
         }
         ScreenFault::NoId => {
