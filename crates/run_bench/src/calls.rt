@@ -40,23 +40,42 @@ pub fn call(rt: &HostRuntime, words: &[String]) -> Result<()> {
 
 fn called(rt: &HostRuntime, words: &mut Words) -> Option<()> {
     let name = words.next()?.as_str();
+    read(rt, name, words)
+}
+
+// Texts that are read.
+fn read(rt: &HostRuntime, name: &str, words: &mut Words) -> Option<()> {
     calls! { rt, name, words, alloc;
         keys_read(text: word) => of_keys(alloc, keys_read(alloc, text));
         body_of_rows(rows: rows) => shown(alloc, &body_of_rows(alloc, rows.as_slice())?);
         base_read(text: bytes, policy: policy) => of_base(alloc, base_read(alloc, text.as_slice()), &policy);
         cert_read(text: bytes) => of_cert(alloc, cert_read(alloc, text.as_slice()));
         feed(text: bytes, piece: number) => of_fed(alloc, text.as_slice(), piece as usize);
+        _ => judge(rt, name, words)
+    }
+}
+
+// What is judged.
+fn judge(rt: &HostRuntime, name: &str, words: &mut Words) -> Option<()> {
+    calls! { rt, name, words, alloc;
         check_bytes(base: bytes, cert: bytes, policy: policy) =>
             of_verdict(alloc, check_bytes(alloc, base.as_slice(), cert.as_slice(), &policy));
         replay(base: base, groups: groups, keys: keys) => shown(alloc, &replay(alloc, &base, &groups, &keys));
+        audit(base: base, policy: policy) => report(alloc, &audit(alloc, &base, &policy)?);
+        faults(base: base, policy: policy) => report(alloc, &Outcome::Faulty(faults(alloc, &base, &policy)?));
+        _ => search(rt, name, words)
+    }
+}
+
+// Frames that are found.
+fn search(rt: &HostRuntime, name: &str, words: &mut Words) -> Option<()> {
+    calls! { rt, name, words, alloc;
         find(base: base, groups: groups) => shown(alloc, &find(alloc, &base, &groups)?);
         script_to(base: base, groups: groups, index: number) => of_script(alloc, &base, &groups, index);
         way_to(base: base, groups: groups, frame: frame) => of_frames(alloc, way_to(alloc, &base, &groups, frame)?);
         frames_after(base: base, groups: groups, keys: keys) =>
             of_keyed(alloc, frames_after(alloc, &base, &groups, keys.as_slice()));
         nearest(base: base, frame: frame) => shown(alloc, &nearest(alloc, &base, frame)?);
-        audit(base: base, policy: policy) => report(alloc, &audit(alloc, &base, &policy)?);
-        faults(base: base, policy: policy) => report(alloc, &Outcome::Faulty(faults(alloc, &base, &policy)?));
         _ => run(rt, name, words)
     }
 }
@@ -65,7 +84,7 @@ fn status_of_errors(run: &Result<Counts, RunFault>) -> u8 {
     status_of_lint(run, Level::Error)
 }
 
-// The runs, on files and an output that can fail.
+// The runs that judge, on files and an output that can fail.
 fn run(rt: &HostRuntime, name: &str, words: &mut Words) -> Option<()> {
     calls! { rt, name, words, alloc;
         run_audit(base: file, out: word, policy: policy) =>
@@ -75,6 +94,15 @@ fn run(rt: &HostRuntime, name: &str, words: &mut Words) -> Option<()> {
         run_change(old: file, old_cert: file, new: file, new_cert: file, out: word, policy: policy) =>
             ran!(alloc, out, status_of, run_change(alloc, &mut old.source(), &mut old_cert.source(), &mut new.source(),
                 &mut new_cert.source(), out, &policy));
+        run_lint(base: file, out: word, policy: policy) =>
+            ran!(alloc, out, status_of_errors, run_lint(alloc, &mut base.source(), out, "base.toml", &policy, &LintReport::all(Format::Full)));
+        _ => run_view(rt, name, words)
+    }
+}
+
+// The runs that show a base.
+fn run_view(rt: &HostRuntime, name: &str, words: &mut Words) -> Option<()> {
+    calls! { rt, name, words, alloc;
         run_walk(base: file, keys: word, out: word, groups: groups) =>
             ran!(alloc, out, status_of, run_walk(alloc, &mut base.source(), keys, &groups, out));
         run_list(base: file, out: word, groups: groups) =>
@@ -83,14 +111,19 @@ fn run(rt: &HostRuntime, name: &str, words: &mut Words) -> Option<()> {
             ran!(alloc, out, status_of_map, run_map(alloc, &mut base.source(), &groups, &view, out));
         run_show(base: file, target: target, form: form, out: word, groups: groups) =>
             ran!(alloc, out, status_of_show, run_show(alloc, &mut base.source(), &groups, &target, form, out));
+        _ => run_screens(rt, name, words)
+    }
+}
+
+// The runs of pages and screens.
+fn run_screens(rt: &HostRuntime, name: &str, words: &mut Words) -> Option<()> {
+    calls! { rt, name, words, alloc;
         run_pages(base: file, view: view, out: word, policy: policy) =>
             ran!(alloc, out, status_of_pages, run_pages(alloc, &mut base.source(), &policy, &view, "base.toml", out));
         run_import(screen: file, kind: kind, path: word, entry: entry, out: word) =>
             ran!(alloc, out, status_of_import, imported(alloc, &mut screen.source(), kind, path, entry, out));
         run_export(base: file, frame: frame, out: word, groups: groups) =>
             ran!(alloc, out, status_of, exported(alloc, &mut base.source(), &groups, frame, out));
-        run_lint(base: file, out: word, policy: policy) =>
-            ran!(alloc, out, status_of_errors, run_lint(alloc, &mut base.source(), out, "base.toml", &policy, &LintReport::all(Format::Full)));
         _ => None
     }
 }
