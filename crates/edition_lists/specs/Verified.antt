@@ -19,7 +19,7 @@ abbrev pub IsNotPassed : List (ℕ × FilesSeen) → Option ℕ → ℕ → Opti
 IsNotPassed editions served n None = Unit {0}
 IsNotPassed editions served n (Some k) = IsNotAfter editions served n k
 
--- `current` names the last edition of its chain
+-- `current` names an edition or isn't there; no edition has passed that one, but for a new beginning
 pub record IsServedLast (f : FolderState) : Type 0 where
   pub served : Option ℕ
   pub named : f.current ≡ option_map number_line served
@@ -40,7 +40,8 @@ abbrev pub IsUnforked : FolderState → Type 0
 IsUnforked f = (m j n k : ℕ) → FollowsOne f m j → FollowsOne f n k → m < n → m ≤ k
 
 -- each edition is whole, has the sums of its files, and was cleared, by itself and against the one that it follows,
--- which is there; no two follow the same one; and `current` names one, the last of its chain, or nothing is published
+-- which is there; no two follow the same one; and the one that `current` names is the last, or nothing is published, but
+-- for what `IsServedLast` allows
 pub record IsVerifiedFolder (f : FolderState) : Type 0 where
   pub sound : IsSoundFolder f
   pub unforked : IsUnforked f
