@@ -27,14 +27,18 @@ listed_words =
     codes "MISSING" ∷
     codes "AT" ∷
     codes "KEY" ∷
+    codes "NO SUCH PAGE" ∷
     codes "CLOSED" ∷
+    codes "CLOSED USER GROUP ONLY" ∷
     codes "NORETURN" ∷
     codes "ENTRYMISSING" ∷
     codes "ENTRYCLOSED" ∷
     codes "SHOWN" ∷
     codes "AGAIN" ∷
     codes "NOTOFFERED" ∷
+    codes "KEY NOT IN USE" ∷
     codes "GONE" ∷
+    codes "LEAVING FOR PAGE" ∷
     codes "CLEARED" ∷
     codes "REFUSED" ∷
     codes "K1" ∷
@@ -83,6 +87,12 @@ listed_words =
     codes "RANK" ∷
     codes "GROUP" ∷
     codes "UNREACHED" ∷
+    codes "served" ∷
+    codes "not yet" ∷
+    codes "never" ∷
+    codes "follows" ∷
+    codes "GOODBYE" ∷
+    codes "PAGES CANNOT BE KEYED HERE" ∷
     codes "X1" ∷
     codes "TooLong" ∷
     codes "X2" ∷

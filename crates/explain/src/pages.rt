@@ -1,7 +1,7 @@
 //! The words and the paragraphs of their texts: written by tools/explain-words from docs/CODES.md.
 
 /// Each word; its place is that of its paragraphs.
-pub static WORDS: [&str; 135] = [
+pub static WORDS: [&str; 145] = [
     "PBC1",
     "entry",
     "ceiling",
@@ -25,14 +25,18 @@ pub static WORDS: [&str; 135] = [
     "MISSING",
     "AT",
     "KEY",
+    "NO SUCH PAGE",
     "CLOSED",
+    "CLOSED USER GROUP ONLY",
     "NORETURN",
     "ENTRYMISSING",
     "ENTRYCLOSED",
     "SHOWN",
     "AGAIN",
     "NOTOFFERED",
+    "KEY NOT IN USE",
     "GONE",
+    "LEAVING FOR PAGE",
     "CLEARED",
     "REFUSED",
     "K1",
@@ -81,6 +85,12 @@ pub static WORDS: [&str; 135] = [
     "RANK",
     "GROUP",
     "UNREACHED",
+    "served",
+    "not yet",
+    "never",
+    "follows",
+    "GOODBYE",
+    "PAGES CANNOT BE KEYED HERE",
     "X1",
     "TooLong",
     "X2",
@@ -325,7 +335,7 @@ const P54: &str = r#"MISSING"#;
 
 const P55: &str = r#"A key leads to a frame that the base doesn't have. An audit names that frame,
 the frame AT which the key is pressed, and the KEY, which ends the script. In a
-walk the caller stays."#;
+walk the caller stays. A call says 'NO SUCH PAGE'."#;
 
 const P56: &str = r#"    entry = 1
 
@@ -349,7 +359,7 @@ const P60: &str = r#"CLOSED"#;
 
 const P61: &str = r#"A key leads to a frame of a closed user group that the caller isn't in;
 --groups names the caller's groups. The line is like that of MISSING. In a walk
-the caller stays."#;
+the caller stays. A call says 'CLOSED USER GROUP ONLY'."#;
 
 const P62: &str = r#"    entry = 1
 
@@ -457,7 +467,7 @@ const P90: &str = r#"    SHOWN 1a 5
 const P91: &str = r#"NOTOFFERED"#;
 
 const P92: &str = r#"The key does nothing: there is no such route, no next frame, no frame for '*#'
-to go back to, or the caller left."#;
+to go back to, or the caller left. A call says 'KEY NOT IN USE'."#;
 
 const P93: &str = r#"    pageaudit walk base.toml '5'"#;
 
@@ -468,7 +478,8 @@ const P95: &str = r#"Fix: add the route or 'next = true' if the key should lead 
 
 const P96: &str = r#"GONE"#;
 
-const P97: &str = r#"The caller left for an outside page. Later keys are NOTOFFERED."#;
+const P97: &str = r#"The caller left for an outside page. Later keys are NOTOFFERED. A call says
+'LEAVING FOR PAGE' and ends."#;
 
 const P98: &str = r#"    pageaudit walk base.toml '90'"#;
 
@@ -817,98 +828,119 @@ const P231: &str = r#"    warning: UNSOUGHT: no key of any frame leads to frame 
 
 const P232: &str = r#"Fix: add a route that leads to the frame, or remove it."#;
 
-const P233: &str = r#"X1 TooLong"#;
+const P233: &str = r#"served"#;
 
-const P234: &str = r#"The file has more than 16,777,216 bytes."#;
+const P234: &str = r#"Callers get this edition. A stopped 'publish' left one that is 'not yet'
+served, which the next makes current, or a new beginning, which 'never' is.
+'follows' has the edition whose callers are taken to this one; '-' is none."#;
 
-const P235: &str = r#"    head -c 16777217 /dev/zero >base.toml
+const P235: &str = r#"    pageaudit publish base.toml live >log 2>&1
+    pageaudit editions live"#;
+
+const P236: &str = r#"    edition 1  served   follows -  1 frame"#;
+
+const P237: &str = r#"GOODBYE"#;
+
+const P238: &str = r#"'*90#' ended the call. A page, as '*123#', is answered by 'PAGES CANNOT BE
+KEYED HERE'."#;
+
+const P239: &str = r#"    pageaudit publish base.toml live >log 2>&1
+    printf '*90#' | pageaudit serve live | grep -ao GOODBYE"#;
+
+const P240: &str = r#"    GOODBYE"#;
+
+const P241: &str = r#"X1 TooLong"#;
+
+const P242: &str = r#"The file has more than 16,777,216 bytes."#;
+
+const P243: &str = r#"    head -c 16777217 /dev/zero >base.toml
     pageaudit walk base.toml ''"#;
 
-const P236: &str = r#"    base: X1 TooLong"#;
+const P244: &str = r#"    base: X1 TooLong"#;
 
-const P237: &str = r#"Fix: split the base, or shorten bodies."#;
+const P245: &str = r#"Fix: split the base, or shorten bodies."#;
 
-const P238: &str = r#"X2 NotToml"#;
+const P246: &str = r#"X2 NotToml"#;
 
-const P239: &str = r#"The file isn't UTF-8 or TOML: a quotation mark or bracket is missing, a key
+const P247: &str = r#"The file isn't UTF-8 or TOML: a quotation mark or bracket is missing, a key
 comes twice, an integer is outside 64 bits, or one of several frames begins
 with '[frame]'."#;
 
-const P240: &str = r#"    printf '%s\n' 'entry = 1' '[[frame]]' 'id = "1a"' "$@" >base.toml
+const P248: &str = r#"    printf '%s\n' 'entry = 1' '[[frame]]' 'id = "1a"' "$@" >base.toml
     pageaudit walk base.toml ''"#;
 
-const P241: &str = r#"    sh try 'rows = ["HELLO]'"#;
+const P249: &str = r#"    sh try 'rows = ["HELLO]'"#;
 
-const P242: &str = r#"    base: X2 NotToml"#;
+const P250: &str = r#"    base: X2 NotToml"#;
 
-const P243: &str = r#"Fix: 'pageaudit lint' names the line and what is wrong there."#;
+const P251: &str = r#"Fix: 'pageaudit lint' names the line and what is wrong there."#;
 
-const P244: &str = r#"X3 UnknownKey"#;
+const P252: &str = r#"X3 UnknownKey"#;
 
-const P245: &str = r#"A base has the keys 'entry', 'outside' and 'frame'; a frame 'id', 'price',
+const P253: &str = r#"A base has the keys 'entry', 'outside' and 'frame'; a frame 'id', 'price',
 'group', 'next', 'routes', 'lead', 'body' and 'rows'; 'routes' the digits '0'
 to '9'."#;
 
-const P246: &str = r#"    sh try 'title = "Town"'"#;
+const P254: &str = r#"    sh try 'title = "Town"'"#;
 
-const P247: &str = r#"    base: frame 0: X3 UnknownKey"#;
+const P255: &str = r#"    base: frame 0: X3 UnknownKey"#;
 
-const P248: &str = r#"Fix: correct the spelling, or put '#' before it."#;
+const P256: &str = r#"Fix: correct the spelling, or put '#' before it."#;
 
-const P249: &str = r#"X4 Absent"#;
+const P257: &str = r#"X4 Absent"#;
 
-const P250: &str = r#"A required key is missing: 'entry', a frame's 'id', or its text, 'body' or
+const P258: &str = r#"A required key is missing: 'entry', a frame's 'id', or its text, 'body' or
 'rows'."#;
 
-const P251: &str = r#"    sh try
+const P259: &str = r#"    sh try
     printf 'entry = 1\n[[frame]]\n' >base.toml
     pageaudit walk base.toml ''"#;
 
-const P252: &str = r#"    base: frame 0: X4 Absent body
+const P260: &str = r#"    base: frame 0: X4 Absent body
     base: frame 0: X4 Absent id"#;
 
-const P253: &str = r#"Fix: add it. A frame without text has 'rows = []'."#;
+const P261: &str = r#"Fix: add it. A frame without text has 'rows = []'."#;
 
-const P254: &str = r#"X5 WrongKind"#;
+const P262: &str = r#"X5 WrongKind"#;
 
-const P255: &str = r#"'entry', 'price', 'group' and routes are integers, 'outside' is an array of
+const P263: &str = r#"'entry', 'price', 'group' and routes are integers, 'outside' is an array of
 integers, 'id', 'lead' and 'body' are strings, 'rows' is an array of strings,
 'next' a boolean, 'routes' a table, each frame a '[[frame]]'."#;
 
-const P256: &str = r#"    sh try 'next = 1'"#;
+const P264: &str = r#"    sh try 'next = 1'"#;
 
-const P257: &str = r#"    base: frame 0: X5 WrongKind next"#;
+const P265: &str = r#"    base: frame 0: X5 WrongKind next"#;
 
-const P258: &str = r#"Fix: write the value in its kind."#;
+const P266: &str = r#"Fix: write the value in its kind."#;
 
-const P259: &str = r#"X6 Range"#;
+const P267: &str = r#"X6 Range"#;
 
-const P260: &str = r#"'entry', pages of 'outside' and routes are 0 to 999,999,999, 'price' is 0 to
+const P268: &str = r#"'entry', pages of 'outside' and routes are 0 to 999,999,999, 'price' is 0 to
 9,999, 'group' 1 to 65,535. 'lead' is 'clear' or 'keep', codes of 'body' are 0
 to FF, and there are at most 22 'rows'."#;
 
-const P261: &str = r#"    sh try 'price = 10000'
+const P269: &str = r#"    sh try 'price = 10000'
     sh try 'group = 0'
     sh try 'routes = { 2 = -1 }'
     sh try 'lead = "Clear"'
     printf 'entry = 1\noutside = [-1]\n' >base.toml
     pageaudit walk base.toml ''"#;
 
-const P262: &str = r#"    base: frame 0: X6 Range price
+const P270: &str = r#"    base: frame 0: X6 Range price
     base: frame 0: X6 Range group
     base: frame 0: X6 Range routes
     base: frame 0: X6 Range lead
     base: X6 Range outside"#;
 
-const P263: &str = r#"Fix: bring the value into its range. Curly quotation marks and long dashes are
+const P271: &str = r#"Fix: bring the value into its range. Curly quotation marks and long dashes are
 above FF."#;
 
-const P264: &str = r#"Range"#;
+const P272: &str = r#"Range"#;
 
-const P265: &str = r#"A number is above its limit: 999,999,999 for 'entry', 9,999 for 'ceiling',
+const P273: &str = r#"A number is above its limit: 999,999,999 for 'entry', 9,999 for 'ceiling',
 65,535 for all others. Or a group is 0, or the seventeenth."#;
 
-const P266: &str = r#"    PBC1
+const P274: &str = r#"    PBC1
     entry 1
     ceiling 0
     keyings 0
@@ -916,244 +948,244 @@ const P266: &str = r#"    PBC1
     1a 0 s40
     end"#;
 
-const P267: &str = r#"    sed "$1" base.cert >other.cert
+const P275: &str = r#"    sed "$1" base.cert >other.cert
     pageaudit check base.toml other.cert --ceiling 0 --keyings 0"#;
 
-const P268: &str = r#"    sh try 's/^ceiling 0/ceiling 10000/'"#;
+const P276: &str = r#"    sh try 's/^ceiling 0/ceiling 10000/'"#;
 
-const P269: &str = r#"    certificate: line 3: Range"#;
+const P277: &str = r#"    certificate: line 3: Range"#;
 
-const P270: &str = r#"Fix: take the file as 'audit' printed it."#;
+const P278: &str = r#"Fix: take the file as 'audit' printed it."#;
 
-const P271: &str = r#"X7 BodyAndRows"#;
+const P279: &str = r#"X7 BodyAndRows"#;
 
-const P272: &str = r#"The frame has both 'body' and 'rows'."#;
+const P280: &str = r#"The frame has both 'body' and 'rows'."#;
 
-const P273: &str = r#"    sh try 'body = ""' 'rows = []'"#;
+const P281: &str = r#"    sh try 'body = ""' 'rows = []'"#;
 
-const P274: &str = r#"    base: frame 0: X7 BodyAndRows"#;
+const P282: &str = r#"    base: frame 0: X7 BodyAndRows"#;
 
-const P275: &str = r#"Fix: remove one of them."#;
+const P283: &str = r#"Fix: remove one of them."#;
 
-const P276: &str = r#"X8 RowTooLong"#;
+const P284: &str = r#"X8 RowTooLong"#;
 
-const P277: &str = r#"A row has more than 40 codes."#;
+const P285: &str = r#"A row has more than 40 codes."#;
 
-const P278: &str = r#"    sh try "rows = ['$(seq -s '' 25)']""#;
+const P286: &str = r#"    sh try "rows = ['$(seq -s '' 25)']""#;
 
-const P279: &str = r#"    base: frame 0: X8 RowTooLong"#;
+const P287: &str = r#"    base: frame 0: X8 RowTooLong"#;
 
-const P280: &str = r#"Fix: cut the row in two."#;
+const P288: &str = r#"Fix: cut the row in two."#;
 
-const P281: &str = r#"X9 RowCode"#;
+const P289: &str = r#"X9 RowCode"#;
 
-const P282: &str = r#"A row has a code outside 20 to 7F (characters) and 80 to 9F (attributes)."#;
+const P290: &str = r#"A row has a code outside 20 to 7F (characters) and 80 to 9F (attributes)."#;
 
-const P283: &str = r#"    sh try 'rows = ["CAF\u00C9"]'"#;
+const P291: &str = r#"    sh try 'rows = ["CAF\u00C9"]'"#;
 
-const P284: &str = r#"    base: frame 0: X9 RowCode"#;
+const P292: &str = r#"    base: frame 0: X9 RowCode"#;
 
-const P285: &str = r#"Fix: replace the code. For control codes use 'body'."#;
+const P293: &str = r#"Fix: replace the code. For control codes use 'body'."#;
 
-const P286: &str = r#"I2 BadFrame"#;
+const P294: &str = r#"I2 BadFrame"#;
 
-const P287: &str = r#"The 'id' isn't a page number, 0 to 999,999,999 without leading zeros, and a
+const P295: &str = r#"The 'id' isn't a page number, 0 to 999,999,999 without leading zeros, and a
 letter, 'a' to 'z'."#;
 
-const P288: &str = r#"    entry = 1
+const P296: &str = r#"    entry = 1
 
     [[frame]]
     id = "1A"
     rows = []"#;
 
-const P289: &str = r#"    pageaudit walk base.toml ''"#;
+const P297: &str = r#"    pageaudit walk base.toml ''"#;
 
-const P290: &str = r#"    base: frame 0: I2 BadFrame"#;
+const P298: &str = r#"    base: frame 0: I2 BadFrame"#;
 
-const P291: &str = r#"Fix: correct the id."#;
+const P299: &str = r#"Fix: correct the id."#;
 
-const P292: &str = r#"B1 Duplicate"#;
+const P300: &str = r#"B1 Duplicate"#;
 
-const P293: &str = r#"Two frames have this id (the smallest is named)."#;
+const P301: &str = r#"Two frames have this id (the smallest is named)."#;
 
-const P294: &str = r#"    sh try 'rows = []' '[[frame]]' 'id = "1a"' 'rows = []'"#;
+const P302: &str = r#"    sh try 'rows = []' '[[frame]]' 'id = "1a"' 'rows = []'"#;
 
-const P295: &str = r#"    base: B1 Duplicate 1a"#;
+const P303: &str = r#"    base: B1 Duplicate 1a"#;
 
-const P296: &str = r#"Fix: remove a frame, or give it another id."#;
+const P304: &str = r#"Fix: remove a frame, or give it another id."#;
 
-const P297: &str = r#"B2 OutsideInside"#;
+const P305: &str = r#"B2 OutsideInside"#;
 
-const P298: &str = r#"This page (the smallest is named) is in 'outside' and has frames."#;
+const P306: &str = r#"This page (the smallest is named) is in 'outside' and has frames."#;
 
-const P299: &str = r#"    entry = 1
+const P307: &str = r#"    entry = 1
     outside = [1]
 
     [[frame]]
     id = "1a"
     rows = []"#;
 
-const P300: &str = r#"    base: B2 OutsideInside 1"#;
+const P308: &str = r#"    base: B2 OutsideInside 1"#;
 
-const P301: &str = r#"Fix: remove the page from 'outside', or its frames."#;
+const P309: &str = r#"Fix: remove the page from 'outside', or its frames."#;
 
-const P302: &str = r#"B3 NextAfterZ"#;
+const P310: &str = r#"B3 NextAfterZ"#;
 
-const P303: &str = r#"This frame 'z' (the smallest is named) has 'next = true'."#;
+const P311: &str = r#"This frame 'z' (the smallest is named) has 'next = true'."#;
 
-const P304: &str = r#"    entry = 1
+const P312: &str = r#"    entry = 1
 
     [[frame]]
     id = "1z"
     next = true
     rows = []"#;
 
-const P305: &str = r#"    base: B3 NextAfterZ 1z"#;
+const P313: &str = r#"    base: B3 NextAfterZ 1z"#;
 
-const P306: &str = r#"Fix: remove 'next = true', and lead on by a route."#;
+const P314: &str = r#"Fix: remove 'next = true', and lead on by a route."#;
 
-const P307: &str = r#"B4 TooMany"#;
+const P315: &str = r#"B4 TooMany"#;
 
-const P308: &str = r#"There are more than 65,535 frames or entries of 'outside'."#;
+const P316: &str = r#"There are more than 65,535 frames or entries of 'outside'."#;
 
-const P309: &str = r#"    printf 'entry = 1\noutside = [%s]\n' $(seq -s , 0 65535) >base.toml
+const P317: &str = r#"    printf 'entry = 1\noutside = [%s]\n' $(seq -s , 0 65535) >base.toml
     pageaudit walk base.toml ''"#;
 
-const P310: &str = r#"    base: B4 TooMany"#;
+const P318: &str = r#"    base: B4 TooMany"#;
 
-const P311: &str = r#"Fix: split the base."#;
+const P319: &str = r#"Fix: split the base."#;
 
-const P312: &str = r#"B5 BodyTooLong"#;
+const P320: &str = r#"B5 BodyTooLong"#;
 
-const P313: &str = r#"This frame's body (the smallest id is named) has more than 4,096 bytes."#;
+const P321: &str = r#"This frame's body (the smallest id is named) has more than 4,096 bytes."#;
 
-const P314: &str = r#"    sh try "$(printf 'body = "%4097s"')""#;
+const P322: &str = r#"    sh try "$(printf 'body = "%4097s"')""#;
 
-const P315: &str = r#"    base: B5 BodyTooLong 1a"#;
+const P323: &str = r#"    base: B5 BodyTooLong 1a"#;
 
-const P316: &str = r#"Fix: shorten the body, or cut the frame in two with 'next = true'."#;
+const P324: &str = r#"Fix: shorten the body, or cut the frame in two with 'next = true'."#;
 
-const P317: &str = r#"Magic"#;
+const P325: &str = r#"Magic"#;
 
-const P318: &str = r#"Line 1 is neither PBC1 nor PBC2. Often the file is a list of faults, or its
+const P326: &str = r#"Line 1 is neither PBC1 nor PBC2. Often the file is a list of faults, or its
 lines end with 0D 0A."#;
 
-const P319: &str = r#"    sh try 's/$/\r/'"#;
+const P327: &str = r#"    sh try 's/$/\r/'"#;
 
-const P320: &str = r#"    certificate: line 1: Magic"#;
+const P328: &str = r#"    certificate: line 1: Magic"#;
 
-const P321: &str = r#"Word"#;
+const P329: &str = r#"Word"#;
 
-const P322: &str = r#"A line before the rows doesn't begin with its word and one space (on line 5
+const P330: &str = r#"A line before the rows doesn't begin with its word and one space (on line 5
 'groups' for PBC2, 'rows' for PBC1). Or a row lacks its id or two spaces, or a
 line has over 128 bytes."#;
 
-const P323: &str = r#"    sh try 's/^entry/Entry/'"#;
+const P331: &str = r#"    sh try 's/^entry/Entry/'"#;
 
-const P324: &str = r#"    certificate: line 2: Word"#;
+const P332: &str = r#"    certificate: line 2: Word"#;
 
-const P325: &str = r#"Number"#;
+const P333: &str = r#"Number"#;
 
-const P326: &str = r#"A number isn't in decimal digits without leading zeros, or a group isn't after
+const P334: &str = r#"A number isn't in decimal digits without leading zeros, or a group isn't after
 one space."#;
 
-const P327: &str = r#"    sh try 's/^entry 1/entry 01/'"#;
+const P335: &str = r#"    sh try 's/^entry 1/entry 01/'"#;
 
-const P328: &str = r#"    certificate: line 2: Number"#;
+const P336: &str = r#"    certificate: line 2: Number"#;
 
-const P329: &str = r#"Order"#;
+const P337: &str = r#"Order"#;
 
-const P330: &str = r#"An id isn't greater than the one before, by page, then by letter; or a group
+const P338: &str = r#"An id isn't greater than the one before, by page, then by letter; or a group
 isn't."#;
 
-const P331: &str = r#"    sh try 's/^rows 1/rows 2/; s/^1a.*/&\n&/'"#;
+const P339: &str = r#"    sh try 's/^rows 1/rows 2/; s/^1a.*/&\n&/'"#;
 
-const P332: &str = r#"    certificate: line 7: Order"#;
+const P340: &str = r#"    certificate: line 7: Order"#;
 
-const P333: &str = r#"Cursor"#;
+const P341: &str = r#"Cursor"#;
 
-const P334: &str = r#"A row's cursor isn't one: see 'any'."#;
+const P342: &str = r#"A row's cursor isn't one: see 'any'."#;
 
-const P335: &str = r#"    sh try 's/s40/s960/'"#;
+const P343: &str = r#"    sh try 's/s40/s960/'"#;
 
-const P336: &str = r#"    certificate: line 6: Cursor"#;
+const P344: &str = r#"    certificate: line 6: Cursor"#;
 
-const P337: &str = r#"Count"#;
+const P345: &str = r#"Count"#;
 
-const P338: &str = r#"There are more or fewer rows than the line 'rows' says."#;
+const P346: &str = r#"There are more or fewer rows than the line 'rows' says."#;
 
-const P339: &str = r#"    sh try 's/^rows 1/rows 2/'"#;
+const P347: &str = r#"    sh try 's/^rows 1/rows 2/'"#;
 
-const P340: &str = r#"    certificate: line 7: Count"#;
+const P348: &str = r#"    certificate: line 7: Count"#;
 
-const P341: &str = r#"Tail"#;
+const P349: &str = r#"Tail"#;
 
-const P342: &str = r#"Something follows the line 'end'."#;
+const P350: &str = r#"Something follows the line 'end'."#;
 
-const P343: &str = r#"    sh try 's/^end/&\n&/'"#;
+const P351: &str = r#"    sh try 's/^end/&\n&/'"#;
 
-const P344: &str = r#"    certificate: line 8: Tail"#;
+const P352: &str = r#"    certificate: line 8: Tail"#;
 
-const P345: &str = r#"Truncated"#;
+const P353: &str = r#"Truncated"#;
 
-const P346: &str = r#"The file ends before the line 'end', or in it."#;
+const P354: &str = r#"The file ends before the line 'end', or in it."#;
 
-const P347: &str = r#"    sh try '/^end/d'"#;
+const P355: &str = r#"    sh try '/^end/d'"#;
 
-const P348: &str = r#"    certificate: line 7: Truncated"#;
+const P356: &str = r#"    certificate: line 7: Truncated"#;
 
-const P349: &str = r#"I4 BadGroups"#;
+const P357: &str = r#"I4 BadGroups"#;
 
-const P350: &str = r#"--groups isn't 1 to 16 numbers, 1 to 65,535 without leading zeros, ascending,
+const P358: &str = r#"--groups isn't 1 to 16 numbers, 1 to 65,535 without leading zeros, ascending,
 with only commas between."#;
 
-const P351: &str = r#"    pageaudit walk base.toml '' --groups 9,7"#;
+const P359: &str = r#"    pageaudit walk base.toml '' --groups 9,7"#;
 
-const P352: &str = r#"    groups: I4 BadGroups"#;
+const P360: &str = r#"    groups: I4 BadGroups"#;
 
-const P353: &str = r#"Fix: write them as '7,9'. For callers in no group leave the option out."#;
+const P361: &str = r#"Fix: write them as '7,9'. For callers in no group leave the option out."#;
 
-const P354: &str = r#"read failed"#;
+const P362: &str = r#"read failed"#;
 
-const P355: &str = r#"The file can't be opened, or reading it failed, as it does for a folder.
+const P363: &str = r#"The file can't be opened, or reading it failed, as it does for a folder.
 'lint', 'show', 'list' and 'map' name it, with the reason."#;
 
-const P356: &str = r#"    pageaudit walk a ''
+const P364: &str = r#"    pageaudit walk a ''
     pageaudit check base.toml a -c 0 -k 0
     pageaudit change base.toml base.toml a a -c 0 -k 0
     pageaudit change base.toml base.toml base.toml a -c 0 -k 0
     pageaudit lint a"#;
 
-const P357: &str = r#"    base: read failed
+const P365: &str = r#"    base: read failed
     certificate: read failed
     new base: read failed
     new certificate: read failed
     a: no such file"#;
 
-const P358: &str = r#"Fix: look at the path, and at who may read the file."#;
+const P366: &str = r#"Fix: look at the path, and at who may read the file."#;
 
-const P359: &str = r#"write failed"#;
+const P367: &str = r#"write failed"#;
 
-const P360: &str = r#"Standard output, or 'audit''s FILE, took only this many bytes. No answer was
+const P368: &str = r#"Standard output, or 'audit''s FILE, took only this many bytes. No answer was
 given, whatever was printed."#;
 
-const P361: &str = r#"    pageaudit walk base.toml '' >/dev/full"#;
+const P369: &str = r#"    pageaudit walk base.toml '' >/dev/full"#;
 
-const P362: &str = r#"    output: write failed after 0 bytes"#;
+const P370: &str = r#"    output: write failed after 0 bytes"#;
 
-const P363: &str = r#"Fix: make room, or see why the reader of the output ended, and run again."#;
+const P371: &str = r#"Fix: make room, or see why the reader of the output ended, and run again."#;
 
-const P364: &str = r#"memory refused"#;
+const P372: &str = r#"memory refused"#;
 
-const P365: &str =
+const P373: &str =
     r#"There isn't enough memory. If there isn't even enough for this line, nothing is
 printed."#;
 
-const P366: &str = r#"Fix: run with more. The largest base takes some 200 MB."#;
+const P374: &str = r#"Fix: run with more. The largest base takes some 200 MB."#;
 
-const P367: &str = r#"I1"#;
+const P375: &str = r#"I1"#;
 
-const P368: &str = r#"Codes of the libraries, which no run prints: I1 no page number, L1 a
+const P376: &str = r#"Codes of the libraries, which no run prints: I1 no page number, L1 a
 certificate's line at fault, L2 a reader used after that, S1 ENTRYMISSING, S2
 ENTRYCLOSED, C1 rows out of order, C2 too many rows, C3 no cursor. Nor is
 'certificate: failed' printed, or '*#', '*00' or '*09' in a script."#;
@@ -1177,126 +1209,128 @@ pub(crate) fn paragraphs_at(place: usize) -> &'static [&'static str] {
             P51, P21, P52, P53,
         ],
         ..=19 => &[P44, P45, P2, P46, P4, P5, P21, P47, P48],
-        ..=22 => &[P54, P55, P2, P56, P4, P57, P21, P58, P59],
-        ..=23 => &[P60, P61, P2, P62, P4, P63, P21, P64, P65],
-        ..=24 => &[P66, P67, P2, P68, P4, P69, P21, P70, P71],
-        ..=25 => &[P72, P73, P2, P74, P4, P5, P21, P75, P76],
-        ..=26 => &[P77, P78, P2, P79, P4, P5, P21, P80, P81],
-        ..=27 => &[P82, P83, P2, P84, P4, P85, P6, P86],
-        ..=28 => &[P87, P88, P2, P84, P4, P89, P6, P90],
-        ..=29 => &[P91, P92, P2, P84, P4, P93, P6, P94, P95],
-        ..=30 => &[P96, P97, P2, P84, P4, P98, P6, P99],
-        ..=31 => &[P100, P101, P2, P36, P37, P38, P4, P102, P6, P103],
-        ..=32 => &[P104, P105, P2, P36, P37, P38, P4, P106, P21, P107, P108],
-        ..=34 => &[
+        ..=23 => &[P54, P55, P2, P56, P4, P57, P21, P58, P59],
+        ..=25 => &[P60, P61, P2, P62, P4, P63, P21, P64, P65],
+        ..=26 => &[P66, P67, P2, P68, P4, P69, P21, P70, P71],
+        ..=27 => &[P72, P73, P2, P74, P4, P5, P21, P75, P76],
+        ..=28 => &[P77, P78, P2, P79, P4, P5, P21, P80, P81],
+        ..=29 => &[P82, P83, P2, P84, P4, P85, P6, P86],
+        ..=30 => &[P87, P88, P2, P84, P4, P89, P6, P90],
+        ..=32 => &[P91, P92, P2, P84, P4, P93, P6, P94, P95],
+        ..=34 => &[P96, P97, P2, P84, P4, P98, P6, P99],
+        ..=35 => &[P100, P101, P2, P36, P37, P38, P4, P102, P6, P103],
+        ..=36 => &[P104, P105, P2, P36, P37, P38, P4, P106, P21, P107, P108],
+        ..=38 => &[
             P109, P110, P2, P36, P37, P38, P39, P40, P4, P111, P21, P112, P113,
         ],
-        ..=36 => &[P114, P115, P2, P36, P37, P38, P4, P116, P21, P107, P117],
-        ..=38 => &[P118, P119, P2, P36, P37, P38, P4, P120, P21, P121, P122],
-        ..=40 => &[P123, P124, P2, P36, P37, P38, P4, P125, P21, P126, P127],
-        ..=42 => &[
+        ..=40 => &[P114, P115, P2, P36, P37, P38, P4, P116, P21, P107, P117],
+        ..=42 => &[P118, P119, P2, P36, P37, P38, P4, P120, P21, P121, P122],
+        ..=44 => &[P123, P124, P2, P36, P37, P38, P4, P125, P21, P126, P127],
+        ..=46 => &[
             P128, P129, P2, P36, P37, P38, P39, P40, P4, P130, P21, P131, P132,
         ],
-        ..=44 => &[
+        ..=48 => &[
             P133, P134, P2, P36, P37, P38, P39, P40, P4, P135, P21, P136, P137,
         ],
-        ..=46 => &[
+        ..=50 => &[
             P138, P139, P2, P36, P37, P38, P39, P40, P4, P140, P21, P141, P142,
         ],
-        ..=48 => &[
+        ..=52 => &[
             P34, P35, P2, P36, P37, P38, P39, P40, P4, P41, P21, P42, P43,
         ],
-        ..=50 => &[
+        ..=54 => &[
             P143, P144, P2, P36, P37, P38, P39, P40, P4, P145, P21, P146, P132,
         ],
-        ..=52 => &[
+        ..=56 => &[
             P49, P50, P2, P36, P37, P38, P39, P40, P4, P51, P21, P52, P53,
         ],
-        ..=54 => &[
+        ..=58 => &[
             P147, P148, P2, P36, P37, P38, P39, P40, P4, P149, P21, P150, P132,
         ],
-        ..=56 => &[
+        ..=60 => &[
             P151, P152, P2, P36, P37, P38, P39, P40, P4, P153, P21, P154, P155,
         ],
-        ..=58 => &[
+        ..=62 => &[
             P156, P157, P2, P36, P37, P38, P39, P40, P4, P158, P21, P159, P160,
         ],
-        ..=60 => &[
+        ..=64 => &[
             P161, P162, P2, P36, P37, P38, P39, P40, P4, P163, P21, P164, P132,
         ],
-        ..=62 => &[
+        ..=66 => &[
             P165, P166, P2, P36, P37, P38, P39, P40, P4, P167, P21, P168, P169,
         ],
-        ..=63 => &[P170, P171, P2, P36, P37, P38, P4, P172, P21, P173, P174],
-        ..=64 => &[
+        ..=67 => &[P170, P171, P2, P36, P37, P38, P4, P172, P21, P173, P174],
+        ..=68 => &[
             P175, P176, P2, P36, P37, P38, P4, P177, P21, P178, P179, P180, P181, P2, P26, P4,
             P182, P183, P184, P185,
         ],
-        ..=66 => &[P186, P187, P2, P36, P37, P38, P4, P188, P21, P189, P190],
-        ..=68 => &[P191, P192, P2, P36, P37, P38, P4, P193, P21, P194, P195],
-        ..=69 => &[
+        ..=70 => &[P186, P187, P2, P36, P37, P38, P4, P188, P21, P189, P190],
+        ..=72 => &[P191, P192, P2, P36, P37, P38, P4, P193, P21, P194, P195],
+        ..=73 => &[
             P196, P197, P198, P199, P4, P200, P6, P201, P202, P203, P204, P2, P205, P4, P206, P6,
             P207,
         ],
-        ..=70 => &[P208, P209, P198, P199, P4, P210, P6, P211, P212],
-        ..=71 => &[P213, P214, P198, P199, P4, P215, P6, P216, P217],
-        ..=72 => &[P218, P219, P198, P199, P4, P220, P6, P221, P222],
-        ..=73 => &[P223, P224, P198, P199, P4, P225, P6, P226, P227],
-        ..=74 => &[P228, P229, P198, P199, P4, P230, P6, P231, P232],
-        ..=78 => &[P203, P204, P2, P205, P4, P206, P6, P207],
-        ..=80 => &[P233, P234, P4, P235, P183, P236, P237],
-        ..=82 => &[P238, P239, P39, P240, P4, P241, P183, P242, P243],
-        ..=84 => &[P244, P245, P39, P240, P4, P246, P183, P247, P248],
-        ..=86 => &[P249, P250, P39, P240, P4, P251, P183, P252, P253],
-        ..=88 => &[P254, P255, P39, P240, P4, P256, P183, P257, P258],
-        ..=89 => &[P259, P260, P39, P240, P4, P261, P183, P262, P263],
-        ..=90 => &[
-            P259, P260, P39, P240, P4, P261, P183, P262, P263, P264, P265, P2, P26, P37, P266, P39,
-            P267, P4, P268, P183, P269, P270,
+        ..=74 => &[P208, P209, P198, P199, P4, P210, P6, P211, P212],
+        ..=75 => &[P213, P214, P198, P199, P4, P215, P6, P216, P217],
+        ..=76 => &[P218, P219, P198, P199, P4, P220, P6, P221, P222],
+        ..=77 => &[P223, P224, P198, P199, P4, P225, P6, P226, P227],
+        ..=78 => &[P228, P229, P198, P199, P4, P230, P6, P231, P232],
+        ..=82 => &[P203, P204, P2, P205, P4, P206, P6, P207],
+        ..=86 => &[P233, P234, P2, P26, P4, P235, P6, P236],
+        ..=88 => &[P237, P238, P2, P26, P4, P239, P6, P240],
+        ..=90 => &[P241, P242, P4, P243, P183, P244, P245],
+        ..=92 => &[P246, P247, P39, P248, P4, P249, P183, P250, P251],
+        ..=94 => &[P252, P253, P39, P248, P4, P254, P183, P255, P256],
+        ..=96 => &[P257, P258, P39, P248, P4, P259, P183, P260, P261],
+        ..=98 => &[P262, P263, P39, P248, P4, P264, P183, P265, P266],
+        ..=99 => &[P267, P268, P39, P248, P4, P269, P183, P270, P271],
+        ..=100 => &[
+            P267, P268, P39, P248, P4, P269, P183, P270, P271, P272, P273, P2, P26, P37, P274, P39,
+            P275, P4, P276, P183, P277, P278,
         ],
-        ..=92 => &[P271, P272, P39, P240, P4, P273, P183, P274, P275],
-        ..=94 => &[P276, P277, P39, P240, P4, P278, P183, P279, P280],
-        ..=96 => &[P281, P282, P39, P240, P4, P283, P183, P284, P285],
-        ..=98 => &[P286, P287, P2, P288, P4, P289, P183, P290, P291],
-        ..=100 => &[P292, P293, P39, P240, P4, P294, P183, P295, P296],
-        ..=102 => &[P297, P298, P2, P299, P4, P289, P183, P300, P301],
-        ..=104 => &[P302, P303, P2, P304, P4, P289, P183, P305, P306],
-        ..=106 => &[P307, P308, P4, P309, P183, P310, P311],
-        ..=108 => &[P312, P313, P39, P240, P4, P314, P183, P315, P316],
-        ..=109 => &[
-            P317, P318, P2, P26, P37, P266, P39, P267, P4, P319, P183, P320, P270,
+        ..=102 => &[P279, P280, P39, P248, P4, P281, P183, P282, P283],
+        ..=104 => &[P284, P285, P39, P248, P4, P286, P183, P287, P288],
+        ..=106 => &[P289, P290, P39, P248, P4, P291, P183, P292, P293],
+        ..=108 => &[P294, P295, P2, P296, P4, P297, P183, P298, P299],
+        ..=110 => &[P300, P301, P39, P248, P4, P302, P183, P303, P304],
+        ..=112 => &[P305, P306, P2, P307, P4, P297, P183, P308, P309],
+        ..=114 => &[P310, P311, P2, P312, P4, P297, P183, P313, P314],
+        ..=116 => &[P315, P316, P4, P317, P183, P318, P319],
+        ..=118 => &[P320, P321, P39, P248, P4, P322, P183, P323, P324],
+        ..=119 => &[
+            P325, P326, P2, P26, P37, P274, P39, P275, P4, P327, P183, P328, P278,
         ],
-        ..=110 => &[
-            P321, P322, P2, P26, P37, P266, P39, P267, P4, P323, P183, P324, P270,
+        ..=120 => &[
+            P329, P330, P2, P26, P37, P274, P39, P275, P4, P331, P183, P332, P278,
         ],
-        ..=111 => &[
-            P325, P326, P2, P26, P37, P266, P39, P267, P4, P327, P183, P328, P270,
+        ..=121 => &[
+            P333, P334, P2, P26, P37, P274, P39, P275, P4, P335, P183, P336, P278,
         ],
-        ..=112 => &[
-            P264, P265, P2, P26, P37, P266, P39, P267, P4, P268, P183, P269, P270,
+        ..=122 => &[
+            P272, P273, P2, P26, P37, P274, P39, P275, P4, P276, P183, P277, P278,
         ],
-        ..=113 => &[
-            P329, P330, P2, P26, P37, P266, P39, P267, P4, P331, P183, P332, P270,
+        ..=123 => &[
+            P337, P338, P2, P26, P37, P274, P39, P275, P4, P339, P183, P340, P278,
         ],
-        ..=114 => &[
-            P333, P334, P2, P26, P37, P266, P39, P267, P4, P335, P183, P336, P270,
+        ..=124 => &[
+            P341, P342, P2, P26, P37, P274, P39, P275, P4, P343, P183, P344, P278,
         ],
-        ..=115 => &[
-            P337, P338, P2, P26, P37, P266, P39, P267, P4, P339, P183, P340, P270,
+        ..=125 => &[
+            P345, P346, P2, P26, P37, P274, P39, P275, P4, P347, P183, P348, P278,
         ],
-        ..=116 => &[
-            P341, P342, P2, P26, P37, P266, P39, P267, P4, P343, P183, P344, P270,
+        ..=126 => &[
+            P349, P350, P2, P26, P37, P274, P39, P275, P4, P351, P183, P352, P278,
         ],
-        ..=117 => &[
-            P345, P346, P2, P26, P37, P266, P39, P267, P4, P347, P183, P348, P270,
+        ..=127 => &[
+            P353, P354, P2, P26, P37, P274, P39, P275, P4, P355, P183, P356, P278,
         ],
-        ..=118 => &[P180, P181, P2, P26, P4, P182, P183, P184, P185],
-        ..=120 => &[P349, P350, P2, P26, P4, P351, P28, P352, P353],
-        ..=123 => &[P24, P25, P2, P26, P4, P27, P28, P29, P30],
-        ..=124 => &[P354, P355, P2, P26, P4, P356, P183, P357, P358],
-        ..=125 => &[P359, P360, P2, P26, P4, P361, P183, P362, P363],
-        ..=126 => &[P364, P365, P366],
-        _ => &[P367, P368],
+        ..=128 => &[P180, P181, P2, P26, P4, P182, P183, P184, P185],
+        ..=130 => &[P357, P358, P2, P26, P4, P359, P28, P360, P361],
+        ..=133 => &[P24, P25, P2, P26, P4, P27, P28, P29, P30],
+        ..=134 => &[P362, P363, P2, P26, P4, P364, P183, P365, P366],
+        ..=135 => &[P367, P368, P2, P26, P4, P369, P183, P370, P371],
+        ..=136 => &[P372, P373, P374],
+        _ => &[P375, P376],
     }
 }
 
@@ -1307,15 +1341,15 @@ any, c, s, +, ?         where the cursor is
 FAULTS, SCRIPT, keys    how many faults
 PRICE                   a frame costs too much
 TOUCHES, BYTE, START    a body writes into a service row
-MISSING, AT, KEY        a key leads to a missing frame
-CLOSED                  a key leads to a closed frame
+MISSING, AT, KEY, NO SUCH PAGE  a key leads to a missing frame
+CLOSED, CLOSED USER GROUP ONLY  a key leads to a closed frame
 NORETURN                no way back to the entry frame
 ENTRYMISSING            the entry frame is missing
 ENTRYCLOSED             the entry frame is closed
 SHOWN                   a frame is sent and charged
 AGAIN                   a frame is sent again
-NOTOFFERED              the key does nothing
-GONE                    the caller left the base
+NOTOFFERED, KEY NOT IN USE  the key does nothing
+GONE, LEAVING FOR PAGE  the caller left the base
 CLEARED                 nothing is wrong
 REFUSED                 a condition fails
 K1, EntryDiffers        the entry pages differ
@@ -1344,6 +1378,8 @@ ESCAPE                  an escape that isn't one
 MENU                    a key that has no route
 UNSOUGHT                no key leads to a closed frame
 FRAME, RANK, GROUP, UNREACHED  a frame of a list
+served, not yet, never, follows  whether callers get an edition
+GOODBYE, PAGES CANNOT BE KEYED HERE  what a call answers to '*'
 X1, TooLong             the file is too long
 X2, NotToml             the file isn't TOML
 X3, UnknownKey          an unknown key

@@ -49,6 +49,8 @@ fn a_word_has_the_text_of_its_section(_rt: HostRuntime) -> Result<(), Fail> {
         ("a:1:1: warning: HIDDEN: row 2 is hidden", Some("HIDDEN")),
         ("FRAME 1a RANK 0 PRICE 5", Some("FRAME")),
         ("output: write failed after 0 bytes", Some("write failed")),
+        ("edition 2  served   follows 1  6 frames", Some("served")),
+        ("no such page", Some("MISSING")),
         ("PRICED xK7 K77x s + k7 price", None),
     ];
     for (word, wanted) in rows {
@@ -105,5 +107,5 @@ fn the_overview_begins_with_the_words_of_each_section(_rt: HostRuntime) -> Resul
         overview().lines().next(),
         Some("PBC1, entry, ceiling, keyings, rows, end  a certificate"),
     )?;
-    same(overview().lines().count(), 74)
+    same(overview().lines().count(), 76)
 }
