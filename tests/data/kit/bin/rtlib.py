@@ -17,6 +17,9 @@ class Crate:
         last = (self.folder / "src" / "lib.rt").read_text().splitlines()[-1]
         return Path(self.rlib).with_name("stamp").read_text() == f"{last}\n"
 
+    def count(self, _: bytes) -> int:
+        return 1
+
     def below(self) -> "list[Crate]":
         return []
 
