@@ -32,7 +32,7 @@ fn slips_of_keys_and_values_are_fixed(rt: HostRuntime) -> Result<(), Fail> {
 }
 
 #[test]
-fn each_slip_of_what_is_no_toml_takes_a_round(rt: HostRuntime) -> Result<(), Fail> {
+fn slips_of_what_is_no_toml_take_rounds(rt: HostRuntime) -> Result<(), Fail> {
     let text =
         "entry: 0820\n[[frame]]\nid = \"820a\"\nnext = TRUE\nrows = [\"\\u82SEA\", \"\\U0081\"]\n";
     let wanted =
@@ -48,6 +48,62 @@ fn text_without_a_certain_fix_stays(rt: HostRuntime) -> Result<(), Fail> {
     let text = "entry = 820\n[[frame]]\nid = \"820a\"\nrows = [\"\\u00lE\"]\n";
     is_fixed(rt.alloc(), text, text, 0)?;
     is_fixed(rt.alloc(), "entry := 820\n", "entry := 820\n", 0)
+}
+
+// Slips on several lines: 4, 04 and "4" are those of rounds of their own.
+const SLIPS: &str = "\
+entry: 820 # no: 1
+[[frame]]
+id : \"820a\"
+  next =TRUE\r
+routes = { 1: 04, 2 = 005, 3: \"4\", 4: 4 }
+rows = [
+\"price: 5\"]
+[[frame]]
+id: \"820b\"
+rows = []
+[frame.routes]
+0: 4
+";
+
+const FIXED: &str = "\
+entry = 820 # no: 1
+[[frame]]
+id  = \"820a\"
+  next =true\r
+routes = { 1 = 4, 2 = 5, 3 = 4, 4 = 4 }
+rows = [
+\"price: 5\"]
+[[frame]]
+id = \"820b\"
+rows = []
+[frame.routes]
+0 = 4
+";
+
+#[test]
+fn slips_of_later_lines_are_fixed(rt: HostRuntime) -> Result<(), Fail> {
+    is_fixed(rt.alloc(), SLIPS, FIXED, 11)
+}
+
+#[test]
+fn lines_of_texts_stay(rt: HostRuntime) -> Result<(), Fail> {
+    let rows = "\n[[frame]]\nid = \"820a\"\nrows = [\nprice: 5 pounds\n]\n";
+    let text = ["entry: 820", rows].concat(rt.alloc())?;
+    let wanted = ["entry = 820", rows].concat(rt.alloc())?;
+    is_fixed(rt.alloc(), text.as_str(), wanted.as_str(), 1)?;
+    let text = "entry: 820\n[[frame]]\nid = \"820a\"\nbody = '''\nprice: 5\n'''\nprice: 5\n";
+    let wanted = "entry = 820\n[[frame]]\nid = \"820a\"\nbody = '''\nprice: 5\n'''\nprice = 5\n";
+    is_fixed(rt.alloc(), text, wanted, 2)
+}
+
+#[test]
+fn pound_sign_after_a_mosaic_colour_stays(rt: HostRuntime) -> Result<(), Fail> {
+    let text =
+        "entry = 820\n[[frame]]\nid = \"820a\"\nrows = [\"\\u0091#\",\n\"£5\", \"\\x97£\"]\n";
+    let wanted =
+        "entry = 820\n[[frame]]\nid = \"820a\"\nrows = [\"\\u0091#\",\n\"#5\", \"\\x97£\"]\n";
+    is_fixed(rt.alloc(), text, wanted, 1)
 }
 
 #[test]

@@ -1,8 +1,8 @@
 -- Pieces of a text.
-use Rattle.std.specs.Prelude.{ℕ, Bool, true, false, not, ◌&&◌, ◌||◌, ◌==◌, ◌-◌, List, [], ◌∷◌, length, nat_le, if◌then◌else◌}
+use Rattle.std.specs.Prelude.{ℕ, Bool, true, false, not, ◌&&◌, ◌||◌, ◌==◌, ◌-◌, List, [], ◌∷◌, length, nat_le, Option, option_map, if◌then◌else◌}
 use Rattle.std.specs.Char.{is_ascii_digit, is_ascii_alphabetic}
 use Rattle.std.specs.List.{list_all}
-use Rattle.text_edits.specs.Edits.{between}
+use Rattle.text_edits.specs.Edits.{ReplacementView, between}
 use Rattle.slip_fixes.specs.declared.bytes.Before.{Before}
 use Rattle.slip_fixes.specs.declared.bytes.Before.TheVariants.{LineFeed, Blank}
 
@@ -78,3 +78,7 @@ key_before text at = let run = run_before text at in if are_blank (after_bare ru
 -- the key whose value begins at a place
 abbrev pub key_of_value : List ℕ → ℕ → List ℕ
 key_of_value text at = let run = run_before text at in if sets_value (after_bare run) then leading_word run else []
+
+-- this text in the place of a span
+abbrev pub replaced : ℕ → ℕ → Option (List ℕ) → Option ReplacementView
+replaced begin end text = option_map (λ text. record { begin = begin; end = end; text = text }) text

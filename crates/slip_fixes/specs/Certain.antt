@@ -1,5 +1,5 @@
 -- Which fix of a finding is certain.
-use Rattle.std.specs.Prelude.{ℕ, ◌||◌, ◌==◌, ◌+◌, ◌-◌, List, [], ◌∷◌, ◌++◌, codes, length, Option, Some, None, option_map, if◌then◌else◌}
+use Rattle.std.specs.Prelude.{ℕ, not, ◌&&◌, ◌||◌, ◌==◌, ◌+◌, ◌-◌, List, [], ◌∷◌, ◌++◌, codes, length, Option, Some, None, option_map, if◌then◌else◌}
 use Rattle.std.specs.Char.{to_ascii_lowercase}
 use Rattle.std.specs.Str.{bytes_eq}
 use Rattle.base_text.specs.Fields.{field_name}
@@ -9,14 +9,11 @@ use Rattle.lint_words.specs.declared.code.Code.TheVariants as found
 use Rattle.lint.specs.Findings.{FindingView}
 use Rattle.text_edits.specs.Edits.{ReplacementView}
 use Rattle.slip_fixes.specs.declared.bytes.Before.TheVariants.{Blank}
-use Rattle.slip_fixes.specs.Bytes.{after_last, key_before, key_of_value, piece_of}
+use Rattle.slip_fixes.specs.Bytes.{after_last, key_before, key_of_value, piece_of, replaced}
+use Rattle.slip_fixes.specs.Mosaics.{are_mosaics}
 use Rattle.slip_fixes.specs.NearKeys.{near_field}
 use Rattle.slip_fixes.specs.TomlSlips.{new_escape, new_mark, new_word}
 use Rattle.slip_fixes.specs.Values.{is_unlisted, new_lead, new_value, quoted_capital}
-
--- this text in the place of a span
-abbrev pub replaced : ℕ → ℕ → Option (List ℕ) → Option ReplacementView
-replaced begin end text = option_map (λ text. record { begin = begin; end = end; text = text }) text
 
 -- a number in brackets
 abbrev pub in_brackets : List ℕ → List ℕ
@@ -36,9 +33,11 @@ key_fix key span = replaced span.begin span.end (option_map field_name (near_fie
 abbrev pub id_fix : List ℕ → ℕ → Option ReplacementView
 id_fix piece end = replaced (end - 2) (end - 1) (option_map (λ letter. to_ascii_lowercase letter ∷ []) (quoted_capital piece))
 
--- a character that no row may have: the pound sign, which is C2 A3
+-- a character that no row may have: the pound sign, which is C2 A3, if it isn't among mosaics
 abbrev pub code_fix : List ℕ → Span → Option ReplacementView
-code_fix piece span = if bytes_eq piece (194 ∷ 163 ∷ []) then replaced span.begin span.end (Some (codes "#")) else None
+code_fix text span =
+    if bytes_eq (piece_of text span.begin span.end) (194 ∷ 163 ∷ []) && not (are_mosaics text span.begin)
+    then replaced span.begin span.end (Some (codes "#")) else None
 
 -- a word that is no value
 abbrev pub word_fix : List ℕ → Span → Option ReplacementView
@@ -64,7 +63,7 @@ fix_of found.WrongKind text span key = value_fix key (piece_of text span.begin s
 fix_of found.Range text span key = replaced span.begin span.end (new_lead key (piece_of text span.begin span.end))
 fix_of found.UnknownKey text span key = key_fix key span
 fix_of found.BadFrame text span key = id_fix (piece_of text span.begin span.end) span.end
-fix_of found.RowCode text span key = code_fix (piece_of text span.begin span.end) span
+fix_of found.RowCode text span key = code_fix text span
 fix_of found.NotToml text span key = toml_fix text span
 fix_of _ text span key = None
 

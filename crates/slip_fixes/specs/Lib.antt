@@ -1,6 +1,8 @@
 pub mod Bytes
 pub mod Certain
+pub mod Lines
 pub mod Loops
+pub mod Mosaics
 pub mod NearKeys
 pub mod Rounds
 pub mod TomlSlips

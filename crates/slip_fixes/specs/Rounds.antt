@@ -1,5 +1,5 @@
 -- Rounds of fixes.
-use Rattle.std.specs.Prelude.{◌≡◌, ◌⊎◌, ℕ, zero, suc, ◌+◌, ◌-◌, ◌^◌, Bool, true, false, min, nat_lt, nat_le, List, [], ◌∷◌, ◌++◌, length, Option, Some, None, if◌then◌else◌}
+use Rattle.std.specs.Prelude.{◌≡◌, ◌⊎◌, ℕ, zero, suc, ◌+◌, ◌-◌, ◌^◌, Bool, true, false, not, min, nat_lt, nat_le, List, [], ◌∷◌, ◌++◌, length, Option, Some, None, if◌then◌else◌}
 use Rattle.checker.specs.declared.policy.Policy.{Policy}
 use Rattle.lint_words.specs.declared.code.Code.{Code}
 use Rattle.lint_words.specs.declared.code.Code.TheVariants.{NotToml, TooLong}
@@ -7,7 +7,10 @@ use Rattle.lint.specs.Findings.{FindingView}
 use Rattle.lint.specs.Lint.{IsLint}
 use Rattle.text_edits.specs.Edits.{ReplacementView, edited}
 use Rattle.slip_fixes.specs.Certain.{certain_fix}
+use Rattle.slip_fixes.specs.declared.lines.LineSpot.TheVariants.{Rest}
 use Rattle.slip_fixes.specs.declared.rounds.TheConstants.{MOST_ROUNDS}
+use Rattle.slip_fixes.specs.Bytes.{piece_of}
+use Rattle.slip_fixes.specs.Lines.{has_long_strings, lines_from}
 
 -- the fix, unless it begins before a place
 abbrev pub first_fix : ℕ → Option ReplacementView → List ReplacementView
@@ -24,8 +27,26 @@ fixes_from text at [] = []
 fixes_from text at (f ∷ fs) = first_fix at (certain_fix text f) ++ fixes_from text (end_after at (certain_fix text f)) fs
 
 -- the certain fixes of findings, but for those that begin within one before
+abbrev pub found_fixes : List ℕ → List FindingView → List ReplacementView
+found_fixes text findings = fixes_from text 0 findings
+
+-- where the lines begin that are fixed too: after the fix of what isn't TOML, if no string has several lines
+abbrev pub begin_after : Code → List ℕ → ℕ → Option ℕ
+begin_after NotToml text end = if not (has_long_strings text) then Some end else None
+begin_after _ text end = None
+
+abbrev pub lines_begin : List ℕ → List FindingView → List ReplacementView → Option ℕ
+lines_begin text [] fixes = None
+lines_begin text (f ∷ fs) [] = None
+lines_begin text (f ∷ fs) (r ∷ rs) = begin_after f.words.code text r.end
+
+abbrev pub line_fixes : List ℕ → Option ℕ → List ReplacementView
+line_fixes text None = []
+line_fixes text (Some begin) = lines_from (length text) Rest (piece_of text begin (length text))
+
+-- the certain fixes of findings, and, of a text that isn't TOML, those of later lines
 abbrev pub fixes_of : List ℕ → List FindingView → List ReplacementView
-fixes_of text findings = fixes_from text 0 findings
+fixes_of text findings = let found = found_fixes text findings in found ++ line_fixes text (lines_begin text findings found)
 
 -- up to where TOML reads the text with these findings, if it doesn't read all of it
 abbrev pub reads_up_to : Code → ℕ → Option ℕ

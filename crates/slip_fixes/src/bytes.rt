@@ -1,9 +1,12 @@
 //! Pieces of a text.
 
-ghost use Rattle.std.specs.Prelude.{◌≡◌, false};
+ghost use Rattle.std.specs.Prelude.{◌≡◌, false, IfOk, option_map};
 ghost use Rattle.std.specs.List.{list_all};
 ghost use Rattle.std.specs.Char.{is_ascii_digit};
-ghost use Rattle.slip_fixes.specs.Bytes.{is_quote, is_gap, is_bare, ends_part, after_last, after_digits, after_gaps, after_zeros, last_run, after_bare, is_number, piece_of, are_blank, key_before, key_of_value, sets_value, run_before, leading_word};
+ghost use Rattle.slip_fixes.specs.Bytes.{is_quote, is_gap, is_bare, ends_part, after_last, after_digits, after_gaps, after_zeros, last_run, after_bare, is_number, piece_of, are_blank, key_before, key_of_value, sets_value, run_before, leading_word, replaced};
+
+use std::alloc::{AllocError, Global};
+use text_edits::Replacement;
 
 /// What a part of a text is after.
 #[derive(Clone, Copy)]
@@ -20,14 +23,14 @@ pub fn is_quote(byte: u8) -> bool
     byte == b'"' || byte == b'\''
 }
 
-fn is_gap(byte: u8) -> bool
+pub fn is_gap(byte: u8) -> bool
     ensures { result ≡ is_gap byte }
 {
     byte == b' ' || byte == b'\t'
 }
 
-// Whether a byte may be in a key without quotation marks.
-fn is_bare(byte: u8) -> bool
+/// Whether a byte may be in a key without quotation marks.
+pub fn is_bare(byte: u8) -> bool
     ensures { result ≡ is_bare byte }
 {
     byte.is_ascii_digit() || byte.is_ascii_alphabetic() || byte == b'_' || byte == b'-'
@@ -141,8 +144,8 @@ pub fn piece_of(text: &[u8], begin: usize, end: usize) -> &[u8]
     }
 }
 
-// What follows the bytes at the front that may be in a key.
-fn after_bare(bytes: &[u8]) -> &[u8]
+/// What follows the bytes at the front that may be in a key.
+pub fn after_bare(bytes: &[u8]) -> &[u8]
     ensures { result.now ≡ after_bare bytes.now }
 {
     let mut rest = bytes;
@@ -193,7 +196,7 @@ fn run_before(text: &[u8], at: usize) -> &[u8]
     last_run(after_last(before, Before::LineFeed))
 }
 
-fn leading_word(run: &[u8]) -> &[u8]
+pub fn leading_word(run: &[u8]) -> &[u8]
     ensures { result.now ≡ leading_word run.now }
 {
     let rest = after_bare(run);
@@ -221,5 +224,24 @@ pub fn key_of_value(text: &[u8], at: usize) -> &[u8]
         leading_word(run)
     } else {
         &[]
+    }
+}
+
+/// This text in the place of a span.
+pub fn replaced(
+    alloc: Global,
+    begin: usize,
+    end: usize,
+    text: Option<&[u8]>,
+) -> Result<Option<Replacement>, AllocError>
+    ensures { IfOk result (λ fix. fix ≡ replaced begin end (option_map (λ t. t.now) text.entry)) }
+{
+    match text {
+        Some(text) => Ok(Some(Replacement {
+            begin,
+            end,
+            text: text.to_vec(alloc)?,
+        })),
+        None => Ok(None),
     }
 }

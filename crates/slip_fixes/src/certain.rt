@@ -1,10 +1,11 @@
 //! The certain fix of a finding.
 
-ghost use Rattle.std.specs.Prelude.{◌≡◌, IfOk, option_map};
-ghost use Rattle.slip_fixes.specs.Certain.{replaced, in_brackets, about_text, value_fix, key_fix, id_fix, code_fix, word_fix, toml_fix, certain_fix};
+ghost use Rattle.std.specs.Prelude.{◌≡◌, IfOk};
+ghost use Rattle.slip_fixes.specs.Certain.{in_brackets, about_text, value_fix, key_fix, id_fix, code_fix, word_fix, toml_fix, certain_fix};
 
-use crate::bytes::{Before, after_last, key_before, key_of_value, piece_of};
+use crate::bytes::{Before, after_last, key_before, key_of_value, piece_of, replaced};
 use crate::keys::near_field;
+use crate::mosaics::are_mosaics;
 use crate::toml_slips::{new_escape, new_mark, new_word};
 use crate::value_slips::{is_unlisted, new_lead, new_value, quoted_capital};
 use lint::Finding;
@@ -12,25 +13,6 @@ use lint_words::{About, Code};
 use std::alloc::{AllocError, Global};
 use text_edits::Replacement;
 use toml_places::Span;
-
-// This text in the place of a span.
-fn replaced(
-    alloc: Global,
-    begin: usize,
-    end: usize,
-    text: Option<&[u8]>,
-) -> Result<Option<Replacement>, AllocError>
-    ensures { IfOk result (λ fix. fix ≡ replaced begin end (option_map (λ t. t.now) text.entry)) }
-{
-    match text {
-        Some(text) => Ok(Some(Replacement {
-            begin,
-            end,
-            text: text.to_vec(alloc)?,
-        })),
-        None => Ok(None),
-    }
-}
 
 // A number in brackets.
 fn in_brackets(alloc: Global, number: &[u8]) -> Result<Vec<u8>, AllocError>
@@ -86,10 +68,11 @@ fn id_fix(alloc: Global, piece: &[u8], end: usize) -> Result<Option<Replacement>
 }
 
 // A character that no row may have.
-fn code_fix(alloc: Global, piece: &[u8], span: Span) -> Result<Option<Replacement>, AllocError>
-    ensures { IfOk result (λ fix. fix ≡ code_fix piece.now span) }
+fn code_fix(alloc: Global, text: &[u8], span: Span) -> Result<Option<Replacement>, AllocError>
+    ensures { IfOk result (λ fix. fix ≡ code_fix text.now span) }
 {
-    if piece == b"\xC2\xA3".as_slice() {
+    let piece = piece_of(text, span.begin, span.end);
+    if piece == b"\xC2\xA3".as_slice() && !are_mosaics(text, span.begin) {
         replaced(alloc, span.begin, span.end, Some(b"#"))
     } else {
         Ok(None)
@@ -151,7 +134,7 @@ pub fn certain_fix(
         Code::Range => replaced(alloc, span.begin, span.end, new_lead(key.as_bytes(), piece)),
         Code::UnknownKey => key_fix(alloc, key, span),
         Code::BadFrame => id_fix(alloc, piece, span.end),
-        Code::RowCode => code_fix(alloc, piece, span),
+        Code::RowCode => code_fix(alloc, text, span),
         Code::NotToml => toml_fix(alloc, text, span),
         _ => Ok(None),
     }

@@ -17,7 +17,7 @@
 //! | a key that is one step from another, with the same first letter | that key |
 //! | a capital letter in an id | the small letter |
 //! | a capital letter in a word of `lead` | the small letter |
-//! | a typed pound sign | `#` |
+//! | a typed pound sign, without a mosaic colour before it on its line | `#` |
 //! | `\u82` before what is no digit in base 16 | `\u0082` |
 //! | `\U0082` before what is no such digit | `\u0082` |
 //!
@@ -28,6 +28,8 @@
 mod bytes;
 mod certain;
 mod keys;
+mod lines;
+mod mosaics;
 mod rounds;
 mod toml_slips;
 mod value_slips;

@@ -1,10 +1,11 @@
 //! Rounds of fixes: each makes all certain fixes of a text's findings, and reads what comes of it.
 
 ghost use Rattle.std.specs.Prelude.{◌≡◌, IfNone, IfOk, IfSome};
-ghost use Rattle.slip_fixes.specs.Rounds.{fixes_of, reads_to, reads_further, HasNoFix, IsNext, IsFixed};
+ghost use Rattle.slip_fixes.specs.Rounds.{found_fixes, lines_begin, fixes_of, reads_to, reads_further, HasNoFix, IsNext, IsFixed};
 ghost use Rattle.slip_fixes.specs.Loops.{AdvancesTo};
 
 use crate::certain::certain_fix;
+use crate::lines::{has_long_strings, push_lines};
 use checker::Policy;
 use lint::{Finding, lint};
 use lint_words::Code;
@@ -31,12 +32,12 @@ struct Attempt {
 }
 
 // The certain fixes of findings, in order, but for those that begin within one before.
-fn fixes_of(
+fn found_fixes(
     alloc: Global,
     text: &[u8],
     findings: &[Finding],
 ) -> Result<Vec<Replacement>, AllocError>
-    ensures { IfOk result (λ fixes. fixes.items ≡ fixes_of text.now findings.now) }
+    ensures { IfOk result (λ fixes. fixes.items ≡ found_fixes text.now findings.now) }
 {
     let mut fixes = Vec::new(alloc);
     let mut at = 0;
@@ -49,6 +50,33 @@ fn fixes_of(
             }
         }
         rest = others;
+    }
+    Ok(fixes)
+}
+
+// Where the lines begin that are fixed too: after the fix of what isn't TOML, if no string has several lines.
+fn lines_begin(text: &[u8], findings: &[Finding], fixes: &[Replacement]) -> Option<usize>
+    ensures { result ≡ lines_begin text.now findings.now fixes.now }
+{
+    let (finding, _) = findings.split_first()?;
+    let (fix, _) = fixes.split_first()?;
+    match finding.words.code() {
+        Code::NotToml if !has_long_strings(text) => Some(fix.end),
+        _ => None,
+    }
+}
+
+// The certain fixes of findings, and, of a text that isn't TOML, those of later lines.
+fn fixes_of(
+    alloc: Global,
+    text: &[u8],
+    findings: &[Finding],
+) -> Result<Vec<Replacement>, AllocError>
+    ensures { IfOk result (λ fixes. fixes.items ≡ fixes_of text.now findings.now) }
+{
+    let mut fixes = found_fixes(alloc, text, findings)?;
+    if let Some(begin) = lines_begin(text, findings, fixes.as_slice()) {
+        push_lines(alloc, &mut fixes, text, begin)?;
     }
     Ok(fixes)
 }
@@ -118,7 +146,8 @@ fn advanced(alloc: Global, state: &Attempt, policy: &Policy) -> Result<Option<At
 /// A base's text with its certain slips fixed, round after round, as long as there are some. A round after which TOML reads less of
 /// the text, or no more of a text that isn't TOML, isn't made: it would have put another fault in the slip's place.
 ///
-/// Each round lints the text once. Of a text that isn't TOML there is a round for each slip.
+/// Each round lints the text once. If the text isn't TOML, a round also fixes later lines: colons after keys, and words as `True` and
+/// `007`, which begin a line or are in the braces of its `routes`. Another slip of what isn't TOML takes a round of its own.
 pub fn fix_slips(alloc: Global, text: &[u8], policy: &Policy) -> Result<Fixed, AllocError>
     ensures { IfOk result (λ f. IsFixed policy.now text.now f.text.items f.fixes) }
 {
